@@ -1,0 +1,11 @@
+use Rattle.std.proofs.Common.{◌≡◌, ◌++◌, drop}
+use Rattle.std.specs.List.{flat_map}
+use Rattle.std.specs.Fmt.{signed_decimal}
+use Rattle.wave_main.specs.Status.{line}
+use Rattle.wave_main.proofs.text.put_values.Given as goal
+
+-- the text so far and that of the values left are the whole text
+abbrev pub invariant-loop-value : goal.invariant-loop-value
+invariant-loop-value l =
+    l.text.items ++ flat_map (λ value. line (signed_decimal value)) (drop l.value-index l.values)
+    ≡ l.fn.text.items ++ flat_map (λ value. line (signed_decimal value)) l.values

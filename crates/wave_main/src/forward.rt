@@ -1,0 +1,179 @@
+// The nest of unit forward substitution, as the loop language reads it.
+ghost use Rattle.std.specs.Prelude.{◌≡◌, ◌<◌, ◌≤◌, length, IfOk};
+ghost use Rattle.wave_main.specs.ForwardLoop.{variable, entry_at, declared, properties, reduced, inner_loop, body, forward_loop};
+
+use loop_core::decl::{Decl, DeclKind, Form, PropDecl, PropKind, Size, Source};
+use loop_core::name::Name;
+use loop_core::nest::{Atom, Expr, Item, Nest, Op, Side, Term, VarId};
+use sqlite_items::{Boxed, Items};
+use std::alloc::Global;
+use wave_base::types::{ArrayId, Memory};
+
+const POINTERS: ArrayId = ArrayId(0);
+
+const COLUMNS: ArrayId = ArrayId(1);
+
+const DIAGONALS: ArrayId = ArrayId(2);
+
+const MATRIX_VALUES: ArrayId = ArrayId(3);
+
+const RIGHT_SIDE: ArrayId = ArrayId(4);
+
+const SOLUTION: ArrayId = ArrayId(5);
+
+/// The line of the outer loop, and so the name of its variable.
+const ROW_LINE: u16 = 9;
+
+/// The line of the inner loop.
+const PLACE_LINE: u16 = 11;
+
+fn name(text: &[u8]) -> Name
+    requires some { 0 < length text.now }
+    requires few { length text.now ≤ 16 }
+    ensures { result ≡ text.now }
+{
+    match Name::of(text) {
+        Some(name) => name,
+        None => unreachable!(),
+    }
+}
+
+fn term(atom: Atom, plus: i64) -> Term
+    ensures { result ≡ record { atom = atom; plus = plus } }
+{
+    Term { atom, plus }
+}
+
+fn variable(line: u16) -> Term
+    ensures { result ≡ variable line }
+{
+    let var = VarId {
+        line,
+        side: Side::Own,
+    };
+    term(Atom::Var(var), 0)
+}
+
+fn entry(alloc: Global, array: ArrayId, line: u16) -> Result<Term, Memory>
+    ensures { IfOk result (λ t. t ≡ entry_at array (variable line)) }
+{
+    let at = Boxed::new(alloc, variable(line))?;
+    Ok(term(Atom::At(array, at), 0))
+}
+
+fn declarations(alloc: Global) -> Result<Items<Decl>, Memory>
+    ensures { IfOk result (λ decls. decls ≡ declared) }
+{
+    let mut decls = Items::new(alloc);
+    decls.push(Decl {
+        line: 1,
+        name: name(b"a"),
+        kind: DeclKind::Matrix(Form::Csr),
+    })?;
+    decls.push(Decl {
+        line: 2,
+        name: name(b"b"),
+        kind: DeclKind::Vector(Size::N, Source::File),
+    })?;
+    decls.push(Decl {
+        line: 3,
+        name: name(b"x"),
+        kind: DeclKind::Vector(Size::N, Source::Zeros),
+    })?;
+    Ok(decls)
+}
+
+fn properties(alloc: Global) -> Result<Items<PropDecl>, Memory>
+    ensures { IfOk result (λ props. props ≡ properties) }
+{
+    let places = PropKind::Range(POINTERS, term(Atom::Zero, 0), term(Atom::Nnz, 1));
+    let rows = PropKind::Range(COLUMNS, term(Atom::Zero, 0), term(Atom::N, 0));
+    let mut props = Items::new(alloc);
+    props.push(PropDecl {
+        line: 4,
+        kind: places,
+    })?;
+    props.push(PropDecl {
+        line: 5,
+        kind: rows,
+    })?;
+    props.push(PropDecl {
+        line: 6,
+        kind: PropKind::Rising(POINTERS),
+    })?;
+    props.push(PropDecl {
+        line: 7,
+        kind: PropKind::Sorted(COLUMNS, POINTERS),
+    })?;
+    props.push(PropDecl {
+        line: 8,
+        kind: PropKind::Diagonal(DIAGONALS, COLUMNS, POINTERS),
+    })?;
+    Ok(props)
+}
+
+/// `x[i] - a.val[p] * x[a.col[p]]`
+fn reduced(alloc: Global) -> Result<Expr, Memory>
+    ensures { IfOk result (λ expr. expr ≡ reduced) }
+{
+    let before = Boxed::new(alloc, Expr::Read(SOLUTION, variable(ROW_LINE)))?;
+    let factor = Boxed::new(alloc, Expr::Read(MATRIX_VALUES, variable(PLACE_LINE)))?;
+    let column = entry(alloc, COLUMNS, PLACE_LINE)?;
+    let solved = Boxed::new(alloc, Expr::Read(SOLUTION, column))?;
+    let product = Boxed::new(alloc, Expr::Op(Op::Mul, factor, solved))?;
+    Ok(Expr::Op(Op::Sub, before, product))
+}
+
+/// The loop over the places before the diagonal.
+fn inner_loop(alloc: Global) -> Result<Item, Memory>
+    ensures { IfOk result (λ item. item ≡ inner_loop) }
+{
+    let lo = entry(alloc, POINTERS, ROW_LINE)?;
+    let hi = entry(alloc, DIAGONALS, ROW_LINE)?;
+    let value = reduced(alloc)?;
+    let mut body = Items::new(alloc);
+    body.push(Item::Set {
+        line: 12,
+        array: SOLUTION,
+        at: variable(ROW_LINE),
+        value,
+    })?;
+    Ok(Item::For {
+        line: PLACE_LINE,
+        name: name(b"p"),
+        lo,
+        hi,
+        body,
+    })
+}
+
+fn body(alloc: Global) -> Result<Items<Item>, Memory>
+    ensures { IfOk result (λ items. items ≡ body) }
+{
+    let inner = inner_loop(alloc)?;
+    let mut body = Items::new(alloc);
+    body.push(Item::Set {
+        line: 10,
+        array: SOLUTION,
+        at: variable(ROW_LINE),
+        value: Expr::Read(RIGHT_SIDE, variable(ROW_LINE)),
+    })?;
+    body.push(inner)?;
+    Ok(body)
+}
+
+/// The nest of unit forward substitution.
+pub fn forward_loop(alloc: Global) -> Result<Nest, Memory>
+    ensures { IfOk result (λ nest. nest ≡ forward_loop) }
+{
+    let decls = declarations(alloc)?;
+    let props = properties(alloc)?;
+    let body = body(alloc)?;
+    Ok(Nest {
+        decls,
+        props,
+        line: ROW_LINE,
+        name: name(b"i"),
+        body,
+    })
+}
