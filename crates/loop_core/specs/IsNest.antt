@@ -20,7 +20,7 @@ use Rattle.loop_core.specs.declared.nest.Nest.{Nest}
 use Rattle.loop_core.specs.Binding.{same_variable}
 use Rattle.loop_core.specs.Depth.{body_depth}
 use Rattle.loop_core.specs.Names.{same_name, is_name, are_distinct}
-use Rattle.loop_core.specs.Shape.{Loop, Form, Line, body_lines, line_terms, line_arrays, line_targets, line_numbers, line_names, targets, term_vars, term_arrays, term_constants}
+use Rattle.loop_core.specs.Shape.{Loop, Form, Line, body_lines, line_terms, line_arrays, line_numbers, line_names, targets, term_vars, term_arrays, term_constants}
 use Rattle.loop_core.specs.Sizes.{sizes, is_index, is_data}
 
 -- Declarations.

@@ -115,12 +115,6 @@ line_arrays (Repeats name lo hi) = []
 line_arrays (Guards left right) = []
 line_arrays (Sets array at value) = expr_arrays value ++ array ∷ []
 
--- the array that a line writes
-abbrev pub line_targets : Form → List ArrayId
-line_targets (Repeats name lo hi) = []
-line_targets (Guards left right) = []
-line_targets (Sets array at value) = array ∷ []
-
 -- the numbers in the expression on a line
 abbrev pub line_numbers : Form → List ℤ
 line_numbers (Repeats name lo hi) = []
@@ -133,6 +127,14 @@ line_names (Repeats name lo hi) = name ∷ []
 line_names (Guards left right) = []
 line_names (Sets array at value) = []
 
--- the arrays that the nest writes
+-- the arrays that the nest writes, in the order of the text
+abbrev pub targets_step : Item-F (List ArrayId) → List ArrayId
+targets_step (Item-F.For line name lo hi body) = flat_map (λ arrays. arrays) body
+targets_step (Item-F.When line rel left right body) = flat_map (λ arrays. arrays) body
+targets_step (Item-F.Set line array at value) = array ∷ []
+
+abbrev pub item_targets : Item → List ArrayId
+item_targets = fold-Item (List ArrayId) targets_step
+
 abbrev pub targets : Nest → List ArrayId
-targets nest = flat_map (λ l. line_targets l.form) (body_lines nest)
+targets nest = flat_map item_targets nest.body
