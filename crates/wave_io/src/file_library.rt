@@ -4,6 +4,7 @@ ghost use Rattle.std.specs.Prelude.{◌≡◌, ◌≤◌, None, IfOk, length};
 use crate::failed::Failed;
 use crate::library::Library;
 use std::io::{Read, Seek, SeekFrom};
+use std::marker::Model;
 use std::rt::Files;
 use std::{fs, io};
 
@@ -27,10 +28,19 @@ pub struct FileLibrary<R: Files> {
     faults: u64,
 }
 
+// It is seen as its count of faults.
+impl<R: Files> Model for FileLibrary<R> {
+    ghost use Rattle.std.specs.Prelude.{ℕ};
+
+    ghost Value = { ℕ };
+
+    ghost view = { λ s. s.faults };
+}
+
 impl<R: Files> FileLibrary<R> {
     /// A library that has met no fault. It opens nothing yet.
     pub fn new(files: R) -> FileLibrary<R>
-        ensures { result.faults ≡ 0 }
+        ensures { result ≡ 0 }
     {
         FileLibrary {
             files,
@@ -45,7 +55,7 @@ impl<R: Files> FileLibrary<R> {
 impl<R: Files> Library for FileLibrary<R> {
     ghost held = { λ _ _. None };
 
-    ghost faults = { λ s _. s.faults };
+    ghost faults = { λ faults _. faults };
 
     fn fetch(&mut self, name: &str, at: u64, into: &mut [u8]) -> Result<usize, Failed> {
         match self.read_at(name, at, into) {
@@ -63,7 +73,7 @@ impl<R: Files> FileLibrary<R> {
     // Opens the file again where the name or the place isn't the one at which it stands.
     fn read_at(&mut self, name: &str, at: u64, into: &mut [u8]) -> io::Result<usize>
         ensures bound { IfOk result (λ k. k ≤ length into.new) }
-        ensures faults { self.new.faults ≡ self.old.faults }
+        ensures faults { self.new ≡ self.old }
     {
         if !self.stands_at(name, at) {
             self.open_at(name, at)?;
@@ -81,7 +91,7 @@ impl<R: Files> FileLibrary<R> {
     }
 
     fn open_at(&mut self, name: &str, at: u64) -> io::Result<()>
-        ensures { self.new.faults ≡ self.old.faults }
+        ensures { self.new ≡ self.old }
     {
         self.open = None;
         let mut file = fs::open(&self.files, name)?;
@@ -121,5 +131,50 @@ impl Name {
         name.len() <= NAME_ROOM
             && self.len == name.len()
             && &self.bytes[..name.len()] == name.as_bytes()
+    }
+}
+
+#[cfg(test)]
+mod tests {
+    use super::*;
+    use crate::read_all::{ReadCause, read_all};
+    use std::test::Fail;
+
+    #[test]
+    fn a_real_file_is_read(rt: HostRuntime) -> Result<(), Fail> {
+        let name = "/tmp/wave_io_file_library_test";
+        fs::write(&rt, name, b"0123456789")?;
+        let mut lib = FileLibrary::new(rt);
+        let whole = read_all(rt.alloc(), &mut lib, name, 10)
+            .ok()
+            .expect(&rt, "read");
+        assert_eq!(rt; whole.as_slice(), b"0123456789".as_slice());
+        assert_eq!(rt;
+            read_all(rt.alloc(), &mut lib, name, 9).err(),
+            Some(ReadCause::Long)
+        );
+
+        // On from there, back, past the end.
+        let mut into = [0u8; 4];
+        for (at, count, first) in [
+            (2, 4, b'2'),
+            (6, 4, b'6'),
+            (0, 4, b'0'),
+            (8, 2, b'8'),
+            (12, 0, b'8'),
+        ] {
+            assert_eq!(rt; lib.fetch(name, at, &mut into), Ok(count));
+            assert_eq!(rt; into[0], first);
+        }
+
+        fs::remove_file(&rt, name)?;
+        assert_eq!(rt; lib.faults, 0);
+        assert_eq!(rt;
+            read_all(rt.alloc(), &mut lib, "/tmp", 9).err(),
+            Some(ReadCause::Failed)
+        );
+        assert_eq!(rt; lib.fetch(name, 0, &mut into), Err(Failed));
+        assert_eq!(rt; lib.faults, 2);
+        Ok(())
     }
 }

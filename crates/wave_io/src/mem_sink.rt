@@ -103,3 +103,31 @@ impl Sink for MemSink {
         Ok(count)
     }
 }
+
+#[cfg(test)]
+mod tests {
+    use super::*;
+    use crate::put_all::put_all;
+    use std::test::Fail;
+
+    #[test]
+    fn a_small_sink_keeps_a_first_part(rt: HostRuntime) -> Result<(), Fail> {
+        let mut sink = MemSink::new(rt.alloc(), 7, 1, vec![in rt.alloc()]?)?;
+        assert_eq!(rt; put_all(&mut sink, b"relations 12"), Err(Failed));
+        assert_eq!(rt; sink.bytes(), b"relatio".as_slice());
+        assert_eq!(rt; sink.faults(), 1);
+        assert_eq!(rt; sink.put(b""), Ok(0));
+        Ok(())
+    }
+
+    #[test]
+    fn the_second_put_fails(rt: HostRuntime) -> Result<(), Fail> {
+        let mut sink = MemSink::new(rt.alloc(), 100, 4, vec![in rt.alloc(); 2]?)?;
+        assert_eq!(rt; sink.put(b"array x"), Ok(4));
+        assert_eq!(rt; sink.put(b"y x"), Err(Failed));
+        assert_eq!(rt; put_all(&mut sink, b"y x 3"), Ok(()));
+        assert_eq!(rt; sink.bytes(), b"array x 3".as_slice());
+        assert_eq!(rt; sink.faults(), 1);
+        Ok(())
+    }
+}

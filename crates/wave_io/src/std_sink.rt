@@ -4,6 +4,7 @@ ghost use Rattle.std.specs.Prelude.{◌≡◌, None};
 use crate::failed::Failed;
 use crate::sink::Sink;
 use std::io::Write;
+use std::marker::Model;
 
 /// A sink over a stream of the process. In `main(rt: HostRuntime)`:
 ///
@@ -19,10 +20,19 @@ pub struct StdSink<W> {
     faults: u64,
 }
 
+// It is seen as its count of faults.
+impl<W> Model for StdSink<W> {
+    ghost use Rattle.std.specs.Prelude.{ℕ};
+
+    ghost Value = { ℕ };
+
+    ghost view = { λ s. s.faults };
+}
+
 impl<W: Write> StdSink<W> {
     /// A sink that has met no fault.
     pub fn new(stream: W) -> StdSink<W>
-        ensures { result.faults ≡ 0 }
+        ensures { result ≡ 0 }
     {
         StdSink { stream, faults: 0 }
     }
@@ -31,7 +41,7 @@ impl<W: Write> StdSink<W> {
 impl<W: Write> Sink for StdSink<W> {
     ghost written = { λ _. None };
 
-    ghost faults = { λ s. s.faults };
+    ghost faults = { λ faults. faults };
 
     // A write that takes nothing of a nonempty piece is a fault too.
     fn put(&mut self, bytes: &[u8]) -> Result<usize, Failed> {
@@ -45,5 +55,32 @@ impl<W: Write> Sink for StdSink<W> {
                 Err(Failed)
             }
         }
+    }
+}
+
+#[cfg(test)]
+mod tests {
+    use super::*;
+    use crate::put_all::put_all;
+    use std::fs;
+    use std::test::Fail;
+
+    #[test]
+    fn streams_take_bytes(rt: HostRuntime) -> Result<(), Fail> {
+        let mut out = StdSink::new(rt.stdout());
+        let mut err = StdSink::new(rt.stderr());
+        assert_eq!(rt; put_all(&mut out, b"to standard output\n"), Ok(()));
+        assert_eq!(rt; put_all(&mut err, b"to standard error\n"), Ok(()));
+        assert_eq!(rt; out.put(b""), Ok(0));
+        Ok(())
+    }
+
+    // A file that was opened for reading takes nothing.
+    #[test]
+    fn a_refused_write_is_counted(rt: HostRuntime) -> Result<(), Fail> {
+        let mut closed = StdSink::new(fs::open(&rt, "/dev/null")?);
+        assert_eq!(rt; put_all(&mut closed, b"lost"), Err(Failed));
+        assert_eq!(rt; closed.faults, 1);
+        Ok(())
     }
 }
