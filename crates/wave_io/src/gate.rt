@@ -1,0 +1,29 @@
+// What stands before each task.
+
+/// Is passed before each task of a worker, on that worker's thread.
+pub trait Gate {
+    /// `task` is the task's number in the worker's own list. Both numbers count from 0.
+    fn pass(&self, worker: u32, task: u32);
+}
+
+/// The gate that does nothing.
+#[derive(Clone, Copy, Debug, PartialEq, Eq)]
+pub struct Free;
+
+impl Gate for Free {
+    fn pass(&self, _worker: u32, _task: u32) {}
+}
+
+#[cfg(test)]
+mod tests {
+    use super::*;
+
+    fn pass_shared<G: Gate + Send + Sync>(gate: &G) {
+        gate.pass(0, 0);
+    }
+
+    #[test]
+    fn threads_may_share_the_free_gate() {
+        pass_shared(&Free);
+    }
+}
