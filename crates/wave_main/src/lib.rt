@@ -1,0 +1,4 @@
+//! The top calls of the program.
+#![tactic(auto)]
+
+pub mod plain;
