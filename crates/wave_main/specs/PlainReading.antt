@@ -1,6 +1,7 @@
 -- The plain form read from the front, part by part: what was found, and the bytes after it.
-use Rattle.std.specs.Prelude.{ℕ, ℤ, pos, negsuc, ◌+◌, ◌-◌, ◌*◌, ◌^◌, Bool, true, false, List, [], ◌∷◌, length, if◌then◌else◌, ◌==◌, ◌&&◌, nat_le, nat_lt, Option, Some, None, option_and_then}
+use Rattle.std.specs.Prelude.{ℕ, ℤ, pos, negsuc, ◌+◌, ◌-◌, ◌*◌, ◌^◌, Bool, List, [], ◌∷◌, if◌then◌else◌, ◌==◌, ◌&&◌, nat_le, nat_lt, Option, Some, None, option_and_then, codes}
 use Rattle.wave_main.specs.declared.plain.entry.PlainEntry.{PlainEntry}
+use Rattle.wave_main.specs.declared.plain.sizes.MatrixSize.{MatrixSize}
 
 infixl 10 ◌>>=◌
 abbrev pub ◌>>=◌ : {A B : Type 0} → Option A → (A → Option B) → Option B
@@ -50,3 +51,26 @@ place_at limit bs = natural_at bs >>= λ x. if nat_le 1 x.0 && nat_le x.0 limit 
 -- an entry line of a matrix with so many rows
 abbrev pub entry_at : ℕ → List ℕ → Option (PlainEntry × List ℕ)
 entry_at rows bs = place_at rows bs >>= λ i. byte_at 32 i.1 >>= λ after_i. place_at rows after_i >>= λ j. byte_at 32 j.1 >>= λ after_j. integer_at after_j >>= λ a. close_at a.1 >>= λ rest. Some (record { row = i.0; column = j.0; value = a.0 }, rest)
+
+-- a number from 0 to a limit
+abbrev pub number_at : ℕ → List ℕ → Option (ℕ × List ℕ)
+number_at limit bs = natural_at bs >>= λ x. if nat_le x.0 limit then Some (x.0, x.1) else None
+
+-- as many columns as rows
+abbrev pub columns_at : ℕ → List ℕ → Option (List ℕ)
+columns_at rows bs = number_at rows bs >>= λ x. if x.0 == rows then Some x.1 else None
+
+-- the value of a line
+abbrev pub value_at : List ℕ → Option (ℤ × List ℕ)
+value_at bs = integer_at bs >>= λ a. close_at a.1 >>= λ rest. Some (a.0, rest)
+
+abbrev pub after_header : List ℕ → List ℕ → Option (List ℕ)
+after_header line bs = text_at line bs >>= close_at
+
+-- the first two lines of a matrix file
+abbrev pub matrix_size_at : List ℕ → Option (MatrixSize × List ℕ)
+matrix_size_at bs = after_header (codes "%%MatrixMarket matrix coordinate integer general") bs >>= λ s. number_at (2 ^ 20) s >>= λ n. byte_at 32 n.1 >>= λ s. columns_at n.0 s >>= λ s. byte_at 32 s >>= λ s. number_at (2 ^ 23) s >>= λ l. close_at l.1 >>= λ s. Some (record { rows = n.0; entries = l.0 }, s)
+
+-- the first two lines of a vector file
+abbrev pub vector_size_at : List ℕ → Option (ℕ × List ℕ)
+vector_size_at bs = after_header (codes "%%MatrixMarket matrix array integer general") bs >>= λ s. number_at (2 ^ 24) s >>= λ n. text_at (codes " 1") n.1 >>= λ s. close_at s >>= λ s. Some (n.0, s)

@@ -9,13 +9,7 @@ pub fn byte(wanted: u8, bytes: &[u8]) -> Option<&[u8]>
     ensures { option_map (λ x. x.now) result ≡ byte_at wanted bytes.now }
 {
     match bytes {
-        [first, tail @ ..] => {
-            if *first == wanted {
-                Some(tail)
-            } else {
-                None
-            }
-        }
+        [first, tail @ ..] => { if *first == wanted { Some(tail) } else { None } }
         _ => None,
     }
 }
