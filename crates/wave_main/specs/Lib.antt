@@ -1,4 +1,5 @@
 pub mod PlainText
+pub mod PlainArraysOf
 pub mod PlainReading
 pub mod PlainBuilding
 pub mod PlainMatrixReading
