@@ -1,3 +1,4 @@
 pub mod PlainLines
 pub mod PlainSteps
 pub mod PlainNumbers
+pub mod PlainTakes
