@@ -1,2 +1,6 @@
 pub mod WordLaws
 pub mod TextLaws
+pub mod PlainLines
+pub mod PlainSteps
+pub mod PlainNumbers
+pub mod PlainTakes

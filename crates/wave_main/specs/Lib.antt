@@ -2,3 +2,9 @@ pub mod Status
 pub mod Words
 pub mod ForwardLoop
 pub mod ArrayText
+pub mod PlainText
+pub mod PlainArraysOf
+pub mod PlainReading
+pub mod PlainBuilding
+pub mod PlainMatrixReading
+pub mod PlainVectorReading

@@ -2,6 +2,7 @@
 #![tactic(auto)]
 
 pub mod forward;
+pub mod plain;
 pub mod status;
 pub mod text;
 pub mod words;

@@ -1,0 +1,9 @@
+// Files of the plain form: a matrix, a vector, and the one loop that is known by its bytes.
+pub mod entry;
+pub mod forward;
+pub mod lines;
+pub mod matrix;
+pub mod numbers;
+pub mod rows;
+pub mod sizes;
+pub mod vector;
