@@ -4,3 +4,5 @@ pub mod PlainLines
 pub mod PlainSteps
 pub mod PlainNumbers
 pub mod PlainTakes
+pub mod FileLaws
+pub mod ForwardLaws

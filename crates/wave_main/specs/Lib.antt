@@ -8,3 +8,4 @@ pub mod PlainReading
 pub mod PlainBuilding
 pub mod PlainMatrixReading
 pub mod PlainVectorReading
+pub mod Files

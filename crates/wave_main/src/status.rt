@@ -2,6 +2,8 @@
 ghost use Rattle.std.specs.Prelude.{◌≡◌};
 ghost use Rattle.wave_main.specs.Status.{code_of};
 
+use wave_base::types;
+
 /// How a call of the program ends. `word` is the place, from 0, of a word of the command line.
 #[derive(Clone, Copy, Debug, PartialEq, Eq)]
 pub enum Status {
@@ -32,5 +34,15 @@ impl Status {
             Status::Memory => 12,
             Status::NotBuilt { .. } => 13,
         }
+    }
+}
+
+impl From<types::Memory> for Status {
+    ghost use Rattle.wave_main.specs.declared.status.Status.TheVariants.{Memory};
+
+    ghost from_gives = { λ _ status. status ≡ Memory };
+
+    fn from(_want: types::Memory) -> Status {
+        Status::Memory
     }
 }

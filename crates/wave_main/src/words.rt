@@ -1,5 +1,5 @@
 // The words of the command line.
-ghost use Rattle.std.specs.Prelude.{◌≡◌, ℕ, MatchOption, length, ◌<◌, ◌^◌, slice_get};
+ghost use Rattle.std.specs.Prelude.{◌≡◌, ℕ, MatchOption, length, ◌<◌, ◌≤◌, ◌^◌, slice_get};
 ghost use Rattle.std.specs.Option.{option_copied};
 ghost use Rattle.wave_main.specs.Words.{IsWorkers, IsRun, IsUsageAt, texts};
 
@@ -46,5 +46,26 @@ pub fn run_usage(words: &[String]) -> Option<u32>
     match workers(count) {
         Some(_) => None,
         None => Some(3),
+    }
+}
+
+/// The words of a run, taken apart. `workers` is the word itself, which is from `1` to `64`.
+#[derive(Clone, Copy)]
+pub struct RunWords<'a> {
+    pub loop_file: &'a str,
+    pub matrix: &'a str,
+    pub workers: &'a str,
+    pub files: &'a [String],
+}
+
+/// Takes the words of a run apart.
+pub fn run_words(words: &[String]) -> RunWords<'_>
+    requires { 4 ≤ length words.now }
+{
+    RunWords {
+        loop_file: words[1].as_str(),
+        matrix: words[2].as_str(),
+        workers: words[3].as_str(),
+        files: &words[4..],
     }
 }

@@ -7,6 +7,6 @@ use Rattle.wave_main.proofs.text.arrays_text.Given as goal
 -- the text so far and that of the declarations left are the whole text, and their numbers are few
 abbrev pub invariant-loop-decl : goal.invariant-loop-decl
 invariant-loop-decl l = record {
-    text : l.text.items ++ flat_map (written_text l.nest l.values) (data_arrays l.first (drop l.decl-index l.nest.decls)) ≡ arrays_text l.nest l.values;
-    few : l.first + length (sizes (drop l.decl-index l.nest.decls)) ≤ 64;
-  }
+  text : l.text.items ++ flat_map (written_text l.nest l.values) (data_arrays l.first (drop l.decl-index l.nest.decls)) ≡ arrays_text l.nest l.values;
+  few : l.first + length (sizes (drop l.decl-index l.nest.decls)) ≤ 64;
+}
