@@ -2,3 +2,4 @@ pub mod PlainLines
 pub mod PlainSteps
 pub mod PlainNumbers
 pub mod PlainTakes
+pub mod PlainVectors
