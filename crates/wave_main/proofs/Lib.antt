@@ -3,3 +3,4 @@ pub mod PlainSteps
 pub mod PlainNumbers
 pub mod PlainTakes
 pub mod PlainVectors
+pub mod PlainMatrixTexts

@@ -141,7 +141,7 @@ signed_some (pos n) fits =
     decimal_nonempty n (omega arith)
 signed_some (negsuc n) fits = omega arith
 
-past_some : (w : List ℕ) (b : ℕ) (t : List ℕ) → IsSome (w ++ b ∷ t)
+pub past_some : (w : List ℕ) (b : ℕ) (t : List ℕ) → IsSome (w ++ b ∷ t)
 past_some [] b t = omega arith
 past_some (c ∷ w) b t = omega arith
 
