@@ -4,3 +4,5 @@ pub mod PlainNumbers
 pub mod PlainTakes
 pub mod PlainVectors
 pub mod PlainMatrixTexts
+pub mod PlainCounts
+pub mod PlainRows
