@@ -6,3 +6,4 @@ pub mod PlainVectors
 pub mod PlainMatrixTexts
 pub mod PlainCounts
 pub mod PlainRows
+pub mod PlainMatrices

@@ -1,9 +1,9 @@
 -- Lists of numbers that count the elements of another list, when that one grows.
-use Rattle.std.proofs.Common.{◌≡◌, ◌⊎◌, inl, inr, ℕ, zero, suc, ℤ, pos, ◌+◌, ◌-◌, ◌<◌, ◌≤◌, Bool, true, false, cond, List, [], ◌∷◌, ◌++◌, length, get_or, refl, sym, ap, subst, ◌∙◌, arith, map, length-append}
+use Rattle.std.proofs.Common.{◌≡◌, ◌⊎◌, inl, inr, ℕ, zero, suc, ℤ, pos, ◌+◌, ◌<◌, ◌≤◌, Bool, true, false, cond, List, [], ◌∷◌, ◌++◌, length, refl, sym, ap, subst, ◌∙◌, arith, map, length-append}
 use Rattle.std.specs.List.{All, AllPairs, Any, count_by, range_with_len}
 use Rattle.std.proofs.lemmas.List.{get_or-append-add}
 use Rattle.std.proofs.Math.ListN.{get_or-append}
-use Rattle.std.proofs.lemmas.List.Elements.{All-nil, All-cons, All-head, All-tail}
+use Rattle.std.proofs.lemmas.List.Elements.{All-head, All-tail}
 use Rattle.std.proofs.lemmas.List.Sums.{sum_by-cons, sum_by_push}
 use Rattle.std.proofs.lemmas.List.FromFn.{map-range_with_len_more}
 use Rattle.wave_main.specs.PlainArraysOf.{numbers_for}
@@ -91,9 +91,9 @@ any_append P (x ∷ xs) ys h =
     elim (any_cons P x (xs ++ ys) h) as (λ _. Any P (x ∷ xs) ⊎ Any P ys) [
       | inl p ↦ inl (0, x, omega arith, refl, p)
       | inr q ↦ elim (any_append P xs ys q) as (λ _. Any P (x ∷ xs) ⊎ Any P ys) [
-          | inl r ↦ inl (any_later P x xs r)
-          | inr r ↦ inr r
-        ]
+        | inl r ↦ inl (any_later P x xs r)
+        | inr r ↦ inr r
+      ]
     ]
 
 pub any_more : {X : Type 0} (P : X → Type 0) (xs ys : List X) → Any P xs → Any P (xs ++ ys)

@@ -1,22 +1,20 @@
 -- The lines of a matrix file: what is read is what is written, and what is written is read.
-use Rattle.std.proofs.Common.{◌≡◌, ◌⊎◌, inl, inr, ℕ, zero, suc, ℤ, pos, negsuc, ◌+◌, ◌-◌, ◌^◌, ◌<◌, ◌≤◌, Bool, true, false, cond, eqb, List, [], ◌∷◌, ◌++◌, length, get_or, Option, Some, None, refl, sym, ap, subst, ◌∙◌, append_assoc, rules, arith, map}
-use Rattle.std.specs.Prelude.{codes, FitsSigned}
-use Rattle.std.specs.Int.{w64}
+use Rattle.std.proofs.Common.{◌≡◌, ℕ, zero, suc, ℤ, ◌+◌, ◌^◌, ◌≤◌, Bool, true, false, cond, eqb, List, [], ◌∷◌, ◌++◌, length, get_or, Option, Some, None, refl, sym, ap, subst, ◌∙◌, append_assoc, arith, map}
+use Rattle.std.specs.Prelude.{codes}
 use Rattle.std.specs.Fmt.{decimal, signed_decimal}
 use Rattle.std.specs.List.{flat_map, All}
-use Rattle.std.proofs.lemmas.Bool.Decides.{nat_tests}
-use Rattle.std.proofs.lemmas.List.Elements.{All-nil, All-cons, All-head, All-tail, All-map, All-weaker}
+use Rattle.std.proofs.lemmas.List.Elements.{All-nil, All-cons, All-head, All-tail, All-map}
 use Rattle.std.proofs.lemmas.List.Folds.{flat_map-map}
 use Rattle.wave_main.specs.declared.plain.entry.PlainEntry.{PlainEntry}
 use Rattle.wave_main.specs.declared.plain.sizes.MatrixSize.{MatrixSize}
-use Rattle.wave_main.specs.PlainReading.{◌>>=◌, byte_at, close_at, number_at, columns_at, place_at, integer_at, entry_at, after_header, matrix_size_at}
+use Rattle.wave_main.specs.PlainReading.{◌>>=◌, byte_at, close_at, number_at, columns_at, place_at, integer_at, entry_at}
 use Rattle.wave_main.specs.PlainBuilding.{Building, fits, added}
 use Rattle.wave_main.specs.PlainMatrixReading.{entries_at}
-use Rattle.wave_main.specs.PlainText.{text_line, spaced, entry_line, PlainMatrix, matrix_text, IsWrittenAs, IsWithin}
+use Rattle.wave_main.specs.PlainText.{text_line, spaced, PlainMatrix, matrix_text, IsWithin}
 use Rattle.wave_main.proofs.PlainLines.{some_is, bind_some, if_some, from_eqb, same_eqb, byte_found}
 use Rattle.wave_main.proofs.PlainNumbers.{begins_with_digit, number_found, number_finds, place_found, place_finds, integer_found, integer_finds}
-use Rattle.wave_main.proofs.PlainTakes.{TakesLine, TakesLines, IsSome, Ends, takes_from_close, ends_from_takes}
-use Rattle.wave_main.proofs.PlainVectors.{header_found, header_finds, past_some}
+use Rattle.wave_main.proofs.PlainTakes.{TakesLine, TakesLines, IsSome, takes_from_close, ends_from_takes}
+use Rattle.wave_main.proofs.PlainVectors.{past_some}
 
 -- ---- three words
 
@@ -155,7 +153,7 @@ entry_finds rows s d t h within few =
 
 -- ---- the entry lines
 
-if_is : {A : Type 0} (b : Bool) (o : Option A) (x : A) → cond b o None ≡ Some x → (b ≡ true) × (o ≡ Some x)
+pub if_is : {A : Type 0} (b : Bool) (o : Option A) (x : A) → cond b o None ≡ Some x → (b ≡ true) × (o ≡ Some x)
 if_is true o x e = (refl, e)
 if_is false o x e = absurd cc
 

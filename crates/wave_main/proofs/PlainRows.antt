@@ -1,14 +1,14 @@
 -- What the arrays stand for while the entries of a matrix are taken.
-use Rattle.std.proofs.Common.{◌≡◌, ◌⊎◌, inl, inr, ℕ, zero, suc, ℤ, pos, ◌+◌, ◌-◌, ◌<◌, ◌≤◌, Bool, true, false, cond, eqb, ltb, leb, List, [], ◌∷◌, ◌++◌, length, Option, Some, None, refl, sym, ap, subst, ◌∙◌, arith, map, length-append, append_assoc}
+use Rattle.std.proofs.Common.{◌≡◌, ◌⊎◌, inl, inr, ℕ, ℤ, pos, ◌+◌, ◌<◌, ◌≤◌, Bool, true, false, cond, eqb, ltb, leb, List, [], ◌∷◌, ◌++◌, length, refl, sym, ap, subst, ◌∙◌, arith, map, length-append}
 use Rattle.std.specs.Prelude.{◌&&◌, ◌||◌}
-use Rattle.std.specs.List.{All, AllPairs, Any, count_by}
+use Rattle.std.specs.List.{All, AllPairs, Any}
 use Rattle.std.proofs.lemmas.Bool.Decides.{nat_tests}
 use Rattle.std.proofs.lemmas.List.{map-append}
 use Rattle.std.proofs.lemmas.List.Elements.{All-nil, All-push, All-weaker}
 use Rattle.std.proofs.lemmas.List.Quantifiers.{Any-push, all_pairs_push}
 use Rattle.wave_main.specs.declared.plain.entry.PlainEntry.{PlainEntry}
 use Rattle.wave_main.specs.PlainText.{Precedes, HasDiagonal}
-use Rattle.wave_main.specs.PlainArraysOf.{stands_above, stands_before_diagonal, numbers_for}
+use Rattle.wave_main.specs.PlainArraysOf.{stands_above, stands_before_diagonal}
 use Rattle.wave_main.specs.PlainBuilding.{Building, nothing_built, begins, goes_on, fits, added}
 use Rattle.wave_main.proofs.PlainLines.{known}
 use Rattle.wave_main.proofs.PlainCounts.{Counts, counts_stay, counts_grow, any_more}
@@ -120,10 +120,10 @@ length_push : (p : List ℤ) (z : ℤ) → length (p ++ z ∷ []) ≡ length p +
 length_push p z = length-append p (z ∷ [])
 
 -- the entry begins a row behind a whole one, or goes on in the last row
-abbrev Begins : Building → PlainEntry → Type 0
+abbrev pub Begins : Building → PlainEntry → Type 0
 Begins b e = (e.row ≡ length b.pointers) × (length b.diagonals ≡ length b.pointers) × (e.column ≤ e.row)
 
-abbrev GoesOn : Building → PlainEntry → Type 0
+abbrev pub GoesOn : Building → PlainEntry → Type 0
 GoesOn b e = (e.row + 1 ≡ length b.pointers) × (b.last < e.column) × ((e.column ≤ e.row) ⊎ (e.row < length b.diagonals))
 
 abbrev Next : Building → PlainEntry → Type 0
@@ -171,7 +171,7 @@ diagonal_test b e h =
           known P (leb e.column e.row) (λ _. refl) (λ _. t))
     ]
 
-fits_next : (b : Building) (e : PlainEntry) → Next b e → fits b e ≡ true
+pub fits_next : (b : Building) (e : PlainEntry) → Next b e → fits b e ≡ true
 fits_next b e h =
     elim h as (λ _. fits b e ≡ true) [
       | inl g ↦ (
@@ -190,10 +190,10 @@ fits_next b e h =
 abbrev pushed : List ℤ → ℕ → List ℤ
 pushed p place = p ++ pos place ∷ []
 
-below_row : (begun last : ℕ) (d : PlainEntry) → Below begun last d → d.row < begun
+pub below_row : (begun last : ℕ) (d : PlainEntry) → Below begun last d → d.row < begun
 below_row begun last d h = elim h as (λ _. d.row < begun) [ inl lt ↦ omega arith | inr g ↦ (let r = g.0 in omega arith) ]
 
-level_le : (begun whole last : ℕ) → Level begun whole last → whole ≤ begun
+pub level_le : (begun whole last : ℕ) → Level begun whole last → whole ≤ begun
 level_le begun whole last h = elim h as (λ _. whole ≤ begun) [ inl g ↦ (let r = g.0 in omega arith) | inr g ↦ (let r = g.0 in omega arith) ]
 
 begins_p : (front : List PlainEntry) (b : Building) (e : PlainEntry) (place : ℕ) → Stands front b → length front ≡ place → Begins b e → Counts stands_above (pushed b.pointers place) (front ++ e ∷ [])
@@ -242,18 +242,18 @@ goes_before front b e s g =
     let row = g.0 in
     let later = g.1 in
     let one : (d : PlainEntry) → Below (length b.pointers) b.last d → Precedes d e = λ d h. elim h as (λ _. Precedes d e) [
-        | inl lt ↦ inl (omega arith)
-        | inr k ↦ (let r = k.0 in let c = k.1 in inr (omega arith, omega arith))
-      ] in
+      | inl lt ↦ inl (omega arith)
+      | inr k ↦ (let r = k.0 in let c = k.1 in inr (omega arith, omega arith))
+    ] in
     All-weaker (Below (length b.pointers) b.last) (λ d. Precedes d e) one front s.below
 
 goes_below : (front : List PlainEntry) (b : Building) (e : PlainEntry) → Stands front b → GoesOn b e → All (Below (length b.pointers) e.column) front
 goes_below front b e s g =
     let later = g.1 in
     let one : (d : PlainEntry) → Below (length b.pointers) b.last d → Below (length b.pointers) e.column d = λ d h. elim h as (λ _. Below (length b.pointers) e.column d) [
-        | inl lt ↦ inl lt
-        | inr k ↦ (let c = k.1 in inr (k.0, omega arith))
-      ] in
+      | inl lt ↦ inl lt
+      | inr k ↦ (let c = k.1 in inr (k.0, omega arith))
+    ] in
     All-weaker (Below (length b.pointers) b.last) (Below (length b.pointers) e.column) one front s.below
 
 goes_plain : (front : List PlainEntry) (b : Building) (e : PlainEntry) → Stands front b → GoesOn b e → (e.column ≡ e.row → ⊥) → Stands (front ++ e ∷ []) (moved b.pointers b.diagonals b e)
@@ -263,17 +263,17 @@ goes_plain front b e s g off =
     let begun = length b.pointers in
     let whole = length b.diagonals in
     let side : (e.column < e.row) ⊎ (e.row < whole) = elim g.2 as (λ _. (e.column < e.row) ⊎ (e.row < whole)) [
-        | inl le ↦ inl (omega (arith, off))
-        | inr lt ↦ inr lt
-      ] in
+      | inl le ↦ inl (omega (arith, off))
+      | inr lt ↦ inr lt
+    ] in
     let level : Level begun whole e.column = elim s.level as (λ _. Level begun whole e.column) [
-        | inl k ↦ (let d = k.0 in let c = k.1 in inl (d, omega arith))
-        | inr k ↦ (let d = k.0 in elim side as (λ _. Level begun whole e.column) [ inl lt ↦ inr (d, omega arith) | inr lt ↦ absurd (omega arith) ])
-      ] in
+      | inl k ↦ (let d = k.0 in let c = k.1 in inl (d, omega arith))
+      | inr k ↦ (let d = k.0 in elim side as (λ _. Level begun whole e.column) [ inl lt ↦ inr (d, omega arith) | inr lt ↦ absurd (omega arith) ])
+    ] in
     let past : (i : ℕ) → i < whole → e.row ≡ i → i ≤ e.column = λ i lt same. elim s.level as (λ _. i ≤ e.column) [
-        | inl k ↦ (let d = k.0 in let c = k.1 in omega arith)
-        | inr k ↦ (let d = k.0 in absurd (omega arith))
-      ] in
+      | inl k ↦ (let d = k.0 in let c = k.1 in omega arith)
+      | inr k ↦ (let d = k.0 in absurd (omega arith))
+    ] in
     let le = level_le begun whole b.last s.level in
     moves front b e b.pointers b.diagonals s (goes_p front b e s g) (counts_stay stands_before_diagonal b.diagonals front e s.diagonals (λ i lt. not_before i e (omega arith) (past i lt))) (goes_before front b e s g) (goes_below front b e s g) row (has_more front e whole s.has) level
 
@@ -285,13 +285,13 @@ goes_diagonal front b e place s len g on =
     let whole = length b.diagonals in
     let more_d = length_push b.diagonals (pos place) in
     let missing : whole + 1 ≡ begun = elim s.level as (λ _. whole + 1 ≡ begun) [
-        | inl k ↦ (let c = k.1 in absurd (omega arith))
-        | inr k ↦ k.0
-      ] in
+      | inl k ↦ (let c = k.1 in absurd (omega arith))
+      | inr k ↦ k.0
+    ] in
     let one : (d : PlainEntry) → Below begun b.last d → stands_before_diagonal whole d ≡ true = λ d h. is_before whole d (elim h as (λ _. (d.row < whole) ⊎ ((d.row ≡ whole) × (d.column < whole))) [
-        | inl lt ↦ inl (omega arith)
-        | inr k ↦ (let r = k.0 in let c = k.1 in inr (omega arith, omega arith))
-      ]) in
+      | inl lt ↦ inl (omega arith)
+      | inr k ↦ (let r = k.0 in let c = k.1 in inr (omega arith, omega arith))
+    ]) in
     let counts = counts_grow stands_before_diagonal b.diagonals front e place s.diagonals (λ i le. not_before i e (omega arith) (λ same. omega arith)) (All-weaker (Below begun b.last) (λ d. stands_before_diagonal whole d ≡ true) one front s.below) len in
     moves front b e b.pointers (pushed b.diagonals place) s (goes_p front b e s g) counts (goes_before front b e s g) (goes_below front b e s g) row (has_one front e whole (length (pushed b.diagonals place)) s.has more_d (omega arith) (omega arith)) (inl (omega arith, omega arith))
 

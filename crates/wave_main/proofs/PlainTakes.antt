@@ -1,5 +1,5 @@
 -- Lines that are taken one after the other, and the text that they make.
-use Rattle.std.proofs.Common.{◌≡◌, ◌⊎◌, inl, inr, ℕ, ◌+◌, ◌<◌, Bool, false, List, [], ◌∷◌, ◌++◌, length, Option, Some, None, refl, sym, ap, ◌∙◌, append_assoc, arith}
+use Rattle.std.proofs.Common.{◌≡◌, ◌⊎◌, inl, inr, ℕ, ◌<◌, false, List, [], ◌∷◌, ◌++◌, length, Some, refl, sym, ap, ◌∙◌, append_assoc, arith}
 use Rattle.std.specs.List.{flat_map, All}
 use Rattle.std.proofs.lemmas.List.{append-nil, append_cancel_right}
 use Rattle.std.proofs.lemmas.List.Elements.{All-head, All-tail}
@@ -66,9 +66,9 @@ written_from_takes (w ∷ ws) s some h =
     let next = written_from_takes ws h.0 later h.2 in
     elim h.1 as (λ _. IsWrittenAs s (joined (w ∷ ws))) [
       | inl e ↦ elim next as (λ _. IsWrittenAs s (joined (w ∷ ws))) [
-          | inl f ↦ inl (e ∙ feed_between w h.0 ∙ ap (λ (x : List ℕ). text_line w ++ x) f)
-          | inr f ↦ inr (ap text_line (e ∙ feed_between w h.0) ∙ append_assoc (text_line w) h.0 (10 ∷ []) ∙ ap (λ (x : List ℕ). text_line w ++ x) f)
-        ]
+        | inl f ↦ inl (e ∙ feed_between w h.0 ∙ ap (λ (x : List ℕ). text_line w ++ x) f)
+        | inr f ↦ inr (ap text_line (e ∙ feed_between w h.0) ∙ append_assoc (text_line w) h.0 (10 ∷ []) ∙ ap (λ (x : List ℕ). text_line w ++ x) f)
+      ]
       | inr e ↦ inr (ap text_line e.0 ∙ sym (append-nil (text_line w)) ∙ ap (λ (x : List ℕ). text_line w ++ x) (sym (nothing_taken ws h.0 later e.1 h.2)))
     ]
 

@@ -1,5 +1,5 @@
 -- A vector file: what is read is what is written, and what is written is read.
-use Rattle.std.proofs.Common.{◌≡◌, ◌⊎◌, inl, inr, ℕ, zero, suc, ℤ, pos, negsuc, ◌+◌, ◌-◌, ◌^◌, ◌<◌, ◌≤◌, Bool, true, false, cond, List, [], ◌∷◌, ◌++◌, length, Option, Some, None, refl, sym, ap, subst, ◌∙◌, append_assoc, rules, arith, map}
+use Rattle.std.proofs.Common.{◌≡◌, ℕ, zero, suc, ℤ, pos, negsuc, ◌^◌, ◌<◌, ◌≤◌, true, cond, List, [], ◌∷◌, ◌++◌, length, Option, Some, None, refl, sym, ap, subst, ◌∙◌, append_assoc, rules, arith, map}
 use Rattle.std.specs.Prelude.{codes, FitsSigned, IfSome}
 use Rattle.std.specs.Int.{w64}
 use Rattle.std.specs.Fmt.{decimal, signed_decimal}
@@ -11,10 +11,10 @@ use Rattle.std.proofs.lemmas.Fmt.{decimal_nonempty}
 use Rattle.wave_main.specs.PlainReading.{◌>>=◌, text_at, close_at, number_at, integer_at, value_at, after_header, vector_size_at}
 use Rattle.wave_main.specs.PlainMatrixReading.{is_end, whole}
 use Rattle.wave_main.specs.PlainVectorReading.{values_at, vector_at}
-use Rattle.wave_main.specs.PlainText.{text_line, spaced, value_line, vector_text, IsWrittenAs, IsPlainVector}
+use Rattle.wave_main.specs.PlainText.{text_line, spaced, vector_text, IsWrittenAs, IsPlainVector}
 use Rattle.wave_main.proofs.PlainLines.{some_is, bind_some, if_some, text_found, text_finds}
 use Rattle.wave_main.proofs.PlainNumbers.{number_found, number_finds, integer_found, integer_finds}
-use Rattle.wave_main.proofs.PlainTakes.{TakesLine, TakesLines, IsSome, Ends, takes_from_close, ends_from_takes, written_from_takes, takes_from_written}
+use Rattle.wave_main.proofs.PlainTakes.{TakesLine, TakesLines, IsSome, takes_from_close, ends_from_takes, written_from_takes, takes_from_written}
 
 -- ---- a fixed first line
 

@@ -1,4 +1,4 @@
-use Rattle.std.proofs.Common.{◌≡◌, ℤ, List, Option, Some, IfOk, IfSome}
+use Rattle.std.proofs.Common.{◌≡◌, ℤ, List, Option, Some, IfSome}
 use Rattle.std.proofs.lemmas.Result.{IfOk-weaker}
 use Rattle.wave_main.specs.PlainText.{IsPlainVector}
 use Rattle.wave_main.specs.PlainVectorReading.{vector_at}
