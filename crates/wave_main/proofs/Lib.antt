@@ -6,3 +6,8 @@ pub mod PlainNumbers
 pub mod PlainTakes
 pub mod FileLaws
 pub mod ForwardLaws
+pub mod PlainVectors
+pub mod PlainMatrixTexts
+pub mod PlainCounts
+pub mod PlainRows
+pub mod PlainMatrices

@@ -1,6 +1,7 @@
 // A matrix file.
-ghost use Rattle.std.specs.Prelude.{◌≡◌, IfOk, MatchBool, Some, None};
-ghost use Rattle.wave_main.specs.PlainBuilding.{nothing_built};
+ghost use Rattle.std.specs.Prelude.{◌≡◌, IfOk, IfSome};
+ghost use Rattle.wave_main.specs.PlainText.{PlainMatrix, IsPlainMatrix};
+ghost use Rattle.wave_main.specs.PlainArraysOf.{arrays_of};
 ghost use Rattle.wave_main.specs.PlainMatrixReading.{entries_at, matrix_at, IsWholeText};
 
 use crate::plain::entry::entry;
@@ -28,8 +29,8 @@ fn take_entries(rows: u32, entries: u32, built: &mut Rows, bytes: &[u8]) -> Resu
     Ok(rest.is_empty())
 }
 
-/// The arrays of a matrix file of the plain form, and `None` where the bytes aren't one.
-pub fn read_plain_matrix(alloc: Global, bytes: &[u8]) -> Result<Option<PlainArrays>, Memory>
+/// What stands in a matrix file, read from its front.
+fn read_matrix(alloc: Global, bytes: &[u8]) -> Result<Option<PlainArrays>, Memory>
     ensures { IfOk result (λ found. found ≡ matrix_at bytes.now) }
 {
     let Some((size, rest)) = matrix_size(bytes) else {
@@ -43,4 +44,15 @@ pub fn read_plain_matrix(alloc: Global, bytes: &[u8]) -> Result<Option<PlainArra
     } else {
         Ok(None)
     }
+}
+
+/// The arrays of a matrix file of the plain form, and `None` where the bytes aren't one.
+///
+/// A file of the plain form is square and has at most 2^20 rows and 2^23 entries. No two matrices
+/// have one text.
+pub fn read_plain_matrix(alloc: Global, bytes: &[u8]) -> Result<Option<PlainArrays>, Memory>
+    ensures found { IfOk result (λ found. IfSome found (λ a. (m : PlainMatrix) × IsPlainMatrix bytes.now m × (a ≡ arrays_of m))) }
+    ensures only { IfOk result (λ found. (m : PlainMatrix) → IsPlainMatrix bytes.now m → found ≡ Some (arrays_of m)) }
+{
+    read_matrix(alloc, bytes)
 }

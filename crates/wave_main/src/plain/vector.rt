@@ -1,6 +1,7 @@
 // A vector file.
-ghost use Rattle.std.specs.Prelude.{◌≡◌, IfOk};
+ghost use Rattle.std.specs.Prelude.{◌≡◌, List, ℤ, IfOk, IfSome};
 ghost use Rattle.std.specs.Option.{option_map};
+ghost use Rattle.wave_main.specs.PlainText.{IsPlainVector};
 ghost use Rattle.wave_main.specs.PlainReading.{value_at};
 ghost use Rattle.wave_main.specs.PlainVectorReading.{values_at, vector_at};
 ghost use Rattle.wave_main.specs.PlainMatrixReading.{IsWholeText};
@@ -42,8 +43,8 @@ fn take_values(length: u32, values: &mut Vec<i64>, bytes: &[u8]) -> Result<bool,
     Ok(rest.is_empty())
 }
 
-/// The values of a vector file of the plain form, and `None` where the bytes aren't one.
-pub fn read_plain_vector(alloc: Global, bytes: &[u8]) -> Result<Option<Words>, Memory>
+/// What stands in a vector file, read from its front.
+fn read_vector(alloc: Global, bytes: &[u8]) -> Result<Option<Words>, Memory>
     ensures { IfOk result (λ found. found ≡ vector_at bytes.now) }
 {
     let Some((length, rest)) = vector_size(bytes) else {
@@ -56,4 +57,13 @@ pub fn read_plain_vector(alloc: Global, bytes: &[u8]) -> Result<Option<Words>, M
     } else {
         Ok(None)
     }
+}
+
+/// The values of a vector file of the plain form, in order, and `None` where the bytes aren't one.
+/// No two lists of values have one text.
+pub fn read_plain_vector(alloc: Global, bytes: &[u8]) -> Result<Option<Words>, Memory>
+    ensures found { IfOk result (λ found. IfSome found (λ values. IsPlainVector bytes.now values)) }
+    ensures only { IfOk result (λ found. (values : List ℤ) → IsPlainVector bytes.now values → found ≡ Some values) }
+{
+    read_vector(alloc, bytes)
 }
