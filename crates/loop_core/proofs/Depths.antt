@@ -1,5 +1,5 @@
 -- Lemmas on how deep loops stand.
-use Rattle.std.proofs.Common.{ℕ, zero, suc, ◌<◌, ◌≤◌, ◌+◌, List, [], ◌∷◌, length, get_or, arith}
+use Rattle.std.proofs.Common.{ℕ, zero, suc, ◌<◌, ◌≤◌, List, [], ◌∷◌, length, get_or, arith}
 use Rattle.loop_core.specs.declared.nest.Item.{Item}
 use Rattle.loop_core.specs.Depth.{depth, body_depth}
 
