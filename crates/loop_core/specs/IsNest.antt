@@ -1,5 +1,5 @@
 -- When a nest is one that the loop language can say.
-use Rattle.std.specs.Prelude.{◌≡◌, ℕ, ◌≤◌, ℤ, pos, negsuc, int_le, Bool, true, false, IsTrue, ◌&&◌, not, ◌==◌, nat_lt, nat_le, List, [], ◌∷◌, ◌++◌, map, length, slice_get, Option, Some, None}
+use Rattle.std.specs.Prelude.{◌≡◌, ℕ, ◌≤◌, ℤ, pos, negsuc, int_le, Bool, true, false, IsTrue, ◌&&◌, not, nat_lt, List, [], ◌∷◌, ◌++◌, map, length, slice_get, Option, Some}
 use Rattle.std.specs.List.{list_all, list_any, count_by, filter, flat_map}
 use Rattle.wave_base.specs.declared.types.ArrayId.{ArrayId}
 use Rattle.loop_core.specs.declared.decl.Decl.{Decl}
@@ -7,11 +7,9 @@ use Rattle.loop_core.specs.declared.decl.DeclKind.{DeclKind}
 use Rattle.loop_core.specs.declared.decl.DeclKind.TheVariants.{Matrix, Index, Vector}
 use Rattle.loop_core.specs.declared.decl.Size.{Size}
 use Rattle.loop_core.specs.declared.decl.Size.TheVariants.{N, NPlusOne, Nnz}
-use Rattle.loop_core.specs.declared.decl.PropDecl.{PropDecl}
 use Rattle.loop_core.specs.declared.decl.PropKind.{PropKind}
 use Rattle.loop_core.specs.declared.decl.PropKind.TheVariants.{Range, Rising, Strict, Injective, Sorted, Below, Upto, Diagonal, Before}
-use Rattle.loop_core.specs.declared.nest.Atom.{Atom}
-use Rattle.loop_core.specs.declared.nest.Atom.TheOpen.{Atom-F, Term-F}
+use Rattle.loop_core.specs.declared.nest.Atom.TheOpen.{Atom-F}
 use Rattle.loop_core.specs.declared.nest.Atom.TheFolds.{fold-Term}
 use Rattle.loop_core.specs.declared.nest.Term.{Term}
 use Rattle.loop_core.specs.declared.nest.VarId.{VarId}
@@ -20,7 +18,7 @@ use Rattle.loop_core.specs.declared.nest.Nest.{Nest}
 use Rattle.loop_core.specs.Binding.{same_variable}
 use Rattle.loop_core.specs.Depth.{body_depth}
 use Rattle.loop_core.specs.Names.{same_name, is_name, are_distinct}
-use Rattle.loop_core.specs.Shape.{Loop, Form, Line, body_lines, line_terms, line_arrays, line_numbers, line_names, targets, term_vars, term_arrays, term_constants}
+use Rattle.loop_core.specs.Shape.{Loop, Line, body_lines, line_terms, line_arrays, line_numbers, line_names, is_target, term_vars, term_arrays, term_constants}
 use Rattle.loop_core.specs.Sizes.{sizes, is_index, is_data}
 
 -- Declarations.
@@ -96,7 +94,7 @@ uses_kinds decls l =
 
 -- the references on a line to arrays that the nest writes
 abbrev pub references_on : Nest → Line → List ArrayId
-references_on nest l = filter (λ array. list_any (λ t. t.0 == array.0) (targets nest)) (line_arrays l.form)
+references_on nest l = filter (is_target nest) (line_arrays l.form)
 
 -- Numbers.
 

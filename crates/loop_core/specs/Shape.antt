@@ -1,11 +1,10 @@
 -- The lines of a nest's body, and what is written on each.
-use Rattle.std.specs.Prelude.{ℕ, ℤ, List, [], ◌∷◌, ◌++◌, map}
-use Rattle.std.specs.List.{flat_map}
+use Rattle.std.specs.Prelude.{ℕ, ℤ, Bool, ◌==◌, List, [], ◌∷◌, ◌++◌, map}
+use Rattle.std.specs.List.{flat_map, list_any}
 use Rattle.wave_base.specs.declared.types.ArrayId.{ArrayId}
 use Rattle.loop_core.specs.declared.nest.VarId.{VarId}
 use Rattle.loop_core.specs.declared.nest.Term.{Term}
-use Rattle.loop_core.specs.declared.nest.Atom.{Atom}
-use Rattle.loop_core.specs.declared.nest.Atom.TheOpen.{Atom-F, Term-F}
+use Rattle.loop_core.specs.declared.nest.Atom.TheOpen.{Atom-F}
 use Rattle.loop_core.specs.declared.nest.Atom.TheFolds.{fold-Term}
 use Rattle.loop_core.specs.declared.nest.Expr.{Expr}
 use Rattle.loop_core.specs.declared.nest.Expr.TheOpen.{Expr-F}
@@ -127,14 +126,27 @@ line_names (Repeats name lo hi) = name ∷ []
 line_names (Guards left right) = []
 line_names (Sets array at value) = []
 
--- the arrays that the nest writes, in the order of the text
+-- the arrays that items write, in the order of the text
+abbrev pub joined : List (List ArrayId) → List ArrayId
+joined lists = flat_map (λ list. list) lists
+
 abbrev pub targets_step : Item-F (List ArrayId) → List ArrayId
-targets_step (Item-F.For line name lo hi body) = flat_map (λ arrays. arrays) body
-targets_step (Item-F.When line rel left right body) = flat_map (λ arrays. arrays) body
+targets_step (Item-F.For line name lo hi body) = joined body
+targets_step (Item-F.When line rel left right body) = joined body
 targets_step (Item-F.Set line array at value) = array ∷ []
 
 abbrev pub item_targets : Item → List ArrayId
 item_targets = fold-Item (List ArrayId) targets_step
 
+abbrev pub body_targets : List Item → List ArrayId
+body_targets items = joined (map item_targets items)
+
 abbrev pub targets : Nest → List ArrayId
-targets nest = flat_map item_targets nest.body
+targets nest = body_targets nest.body
+
+abbrev pub same_array : ArrayId → ArrayId → Bool
+same_array a b = a.0 == b.0
+
+-- whether the nest writes the array
+abbrev pub is_target : Nest → ArrayId → Bool
+is_target nest array = list_any (same_array array) (targets nest)

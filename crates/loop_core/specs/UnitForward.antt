@@ -1,6 +1,6 @@
 -- Unit forward substitution as a nest: for each row i, x[i] = b[i], and then for each entry p of the row
 -- before its diagonal, x[i] = x[i] - a.val[p] * x[a.col[p]].
-use Rattle.std.specs.Prelude.{pos, codes, List, [], ◌∷◌}
+use Rattle.std.specs.Prelude.{pos, codes, [], ◌∷◌}
 use Rattle.wave_base.specs.declared.types.ArrayId.{ArrayId}
 use Rattle.loop_core.specs.declared.decl.Form.TheVariants.{Csr}
 use Rattle.loop_core.specs.declared.decl.Size.TheVariants.{N as of_n}
@@ -12,7 +12,6 @@ use Rattle.loop_core.specs.declared.nest.Atom.{Atom}
 use Rattle.loop_core.specs.declared.nest.Atom.TheVariants.{Zero, N, Nnz, Var, At}
 use Rattle.loop_core.specs.declared.nest.Term.{Term}
 use Rattle.loop_core.specs.declared.nest.Op.TheVariants.{Sub, Mul}
-use Rattle.loop_core.specs.declared.nest.Expr.{Expr}
 use Rattle.loop_core.specs.declared.nest.Expr.TheVariants.{Read, Op}
 use Rattle.loop_core.specs.declared.nest.Item.{Item}
 use Rattle.loop_core.specs.declared.nest.Item.TheVariants.{For, Set}
