@@ -3,6 +3,7 @@ ghost use Rattle.std.specs.Prelude.{◌≡◌, ◌≤◌, None, IfOk, length};
 
 use crate::failed::Failed;
 use crate::library::Library;
+use arrayvec::ArrayString;
 use std::io::{Read, Seek, SeekFrom};
 use std::marker::Model;
 use std::rt::Files;
@@ -23,7 +24,7 @@ const NAME_ROOM: usize = 4096;
 pub struct FileLibrary<R: Files> {
     files: R,
     open: Option<R::File>,
-    name: Name,
+    name: ArrayString<NAME_ROOM>,
     at: u64,
     faults: u64,
 }
@@ -45,7 +46,7 @@ impl<R: Files> FileLibrary<R> {
         FileLibrary {
             files,
             open: None,
-            name: Name::new(),
+            name: ArrayString::new(),
             at: 0,
             faults: 0,
         }
@@ -61,7 +62,6 @@ impl<R: Files> Library for FileLibrary<R> {
         match self.read_at(name, at, into) {
             Ok(count) => Ok(count),
             Err(_) => {
-                self.open = None;
                 self.faults = self.faults.saturating_add(1);
                 Err(Failed)
             }
@@ -70,68 +70,31 @@ impl<R: Files> Library for FileLibrary<R> {
 }
 
 impl<R: Files> FileLibrary<R> {
-    // Opens the file again where the name or the place isn't the one at which it stands.
+    // Opens the file again where the name or the place isn't the one at which it stands. After an
+    // error nothing stays open.
     fn read_at(&mut self, name: &str, at: u64, into: &mut [u8]) -> io::Result<usize>
         ensures bound { IfOk result (λ k. k ≤ length into.new) }
         ensures faults { self.new ≡ self.old }
     {
-        if !self.stands_at(name, at) {
-            self.open_at(name, at)?;
-        }
-        let Some(file) = &mut self.open else {
-            return Ok(0);
+        let mut file = match self.open.take() {
+            Some(file) if self.at == at && self.name.as_str() == name => file,
+            _ => open_at(&self.files, name, at)?,
         };
         let count = file.read(into)?;
-        self.at = self.at.saturating_add(count as u64);
+        self.name.clear();
+        let _ = self.name.try_push_str(name);
+        self.at = at.saturating_add(count as u64);
+        self.open = Some(file);
         Ok(count)
     }
-
-    fn stands_at(&self, name: &str, at: u64) -> bool {
-        self.open.is_some() && self.at == at && self.name.is(name)
-    }
-
-    fn open_at(&mut self, name: &str, at: u64) -> io::Result<()>
-        ensures { self.new ≡ self.old }
-    {
-        self.open = None;
-        let mut file = fs::open(&self.files, name)?;
-        if at > 0 {
-            file.seek(SeekFrom::Start(at))?;
-        }
-        self.at = at;
-        self.name.set(name);
-        self.open = Some(file);
-        Ok(())
-    }
 }
 
-// A copy of a name that takes no memory.
-#[derive(Drop)]
-struct Name {
-    bytes: [u8; NAME_ROOM],
-    len: usize,
-}
-
-impl Name {
-    fn new() -> Name {
-        Name {
-            bytes: [0; NAME_ROOM],
-            len: 0,
-        }
+fn open_at<R: Files>(files: &R, name: &str, at: u64) -> io::Result<R::File> {
+    let mut file = fs::open(files, name)?;
+    if at > 0 {
+        file.seek(SeekFrom::Start(at))?;
     }
-
-    fn set(&mut self, name: &str) {
-        self.len = name.len();
-        let kept = name.len().min(NAME_ROOM);
-        self.bytes[..kept].copy_from_slice(&name.as_bytes()[..kept]);
-    }
-
-    // A name that is too long to be remembered is none.
-    fn is(&self, name: &str) -> bool {
-        name.len() <= NAME_ROOM
-            && self.len == name.len()
-            && &self.bytes[..name.len()] == name.as_bytes()
-    }
+    Ok(file)
 }
 
 #[cfg(test)]
