@@ -1,5 +1,4 @@
 pub mod WordLaws
-pub mod TextLaws
 pub mod PlainLines
 pub mod PlainSteps
 pub mod PlainNumbers

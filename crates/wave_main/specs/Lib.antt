@@ -1,6 +1,5 @@
 pub mod Status
 pub mod Words
-pub mod ForwardLoop
 pub mod ArrayText
 pub mod PlainText
 pub mod PlainArraysOf

@@ -1,6 +1,8 @@
 // The nest of unit forward substitution, as the loop language reads it.
 ghost use Rattle.std.specs.Prelude.{◌≡◌, ◌<◌, ◌≤◌, length, IfOk};
-ghost use Rattle.wave_main.specs.ForwardLoop.{variable, entry_at, declared, properties, reduced, inner_loop, body, forward_loop};
+ghost use Rattle.loop_core.specs.declared.nest.Atom.TheVariants.{At, Var};
+ghost use Rattle.loop_core.specs.declared.nest.Side.TheVariants.{Own};
+ghost use Rattle.loop_core.specs.UnitForward.{plain, subtract, unit_forward};
 
 use loop_core::decl::{Decl, DeclKind, Form, PropDecl, PropKind, Size, Source};
 use loop_core::name::Name;
@@ -45,7 +47,7 @@ fn term(atom: Atom, plus: i64) -> Term
 }
 
 fn variable(line: u16) -> Term
-    ensures { result ≡ variable line }
+    ensures { result ≡ plain (Var (record { line = line; side = Own })) }
 {
     let var = VarId {
         line,
@@ -55,14 +57,14 @@ fn variable(line: u16) -> Term
 }
 
 fn entry(alloc: Global, array: ArrayId, line: u16) -> Result<Term, Memory>
-    ensures { IfOk result (λ t. t ≡ entry_at array (variable line)) }
+    ensures { IfOk result (λ t. t ≡ plain (At array (plain (Var (record { line = line; side = Own }))))) }
 {
     let at = Boxed::new(alloc, variable(line))?;
     Ok(term(Atom::At(array, at), 0))
 }
 
 fn declarations(alloc: Global) -> Result<Items<Decl>, Memory>
-    ensures { IfOk result (λ decls. decls ≡ declared) }
+    ensures { IfOk result (λ decls. decls ≡ unit_forward.decls) }
 {
     let mut decls = Items::new(alloc);
     decls.push(Decl {
@@ -84,7 +86,7 @@ fn declarations(alloc: Global) -> Result<Items<Decl>, Memory>
 }
 
 fn properties(alloc: Global) -> Result<Items<PropDecl>, Memory>
-    ensures { IfOk result (λ props. props ≡ properties) }
+    ensures { IfOk result (λ props. props ≡ unit_forward.props) }
 {
     let places = PropKind::Range(POINTERS, term(Atom::Zero, 0), term(Atom::Nnz, 1));
     let rows = PropKind::Range(COLUMNS, term(Atom::Zero, 0), term(Atom::N, 0));
@@ -112,45 +114,30 @@ fn properties(alloc: Global) -> Result<Items<PropDecl>, Memory>
     Ok(props)
 }
 
-/// `x[i] - a.val[p] * x[a.col[p]]`
-fn reduced(alloc: Global) -> Result<Expr, Memory>
-    ensures { IfOk result (λ expr. expr ≡ reduced) }
+/// `set x[i] = x[i] - a.val[p] * x[a.col[p]]`
+fn subtract(alloc: Global) -> Result<Item, Memory>
+    ensures { IfOk result (λ item. item ≡ subtract) }
 {
     let before = Boxed::new(alloc, Expr::Read(SOLUTION, variable(ROW_LINE)))?;
     let factor = Boxed::new(alloc, Expr::Read(MATRIX_VALUES, variable(PLACE_LINE)))?;
     let column = entry(alloc, COLUMNS, PLACE_LINE)?;
     let solved = Boxed::new(alloc, Expr::Read(SOLUTION, column))?;
     let product = Boxed::new(alloc, Expr::Op(Op::Mul, factor, solved))?;
-    Ok(Expr::Op(Op::Sub, before, product))
-}
-
-/// The loop over the places before the diagonal.
-fn inner_loop(alloc: Global) -> Result<Item, Memory>
-    ensures { IfOk result (λ item. item ≡ inner_loop) }
-{
-    let lo = entry(alloc, POINTERS, ROW_LINE)?;
-    let hi = entry(alloc, DIAGONALS, ROW_LINE)?;
-    let value = reduced(alloc)?;
-    let mut body = Items::new(alloc);
-    body.push(Item::Set {
+    Ok(Item::Set {
         line: 12,
         array: SOLUTION,
         at: variable(ROW_LINE),
-        value,
-    })?;
-    Ok(Item::For {
-        line: PLACE_LINE,
-        name: name(b"p"),
-        lo,
-        hi,
-        body,
+        value: Expr::Op(Op::Sub, before, product),
     })
 }
 
 fn body(alloc: Global) -> Result<Items<Item>, Memory>
-    ensures { IfOk result (λ items. items ≡ body) }
+    ensures { IfOk result (λ items. items ≡ unit_forward.body) }
 {
-    let inner = inner_loop(alloc)?;
+    let lo = entry(alloc, POINTERS, ROW_LINE)?;
+    let hi = entry(alloc, DIAGONALS, ROW_LINE)?;
+    let mut inner = Items::new(alloc);
+    inner.push(subtract(alloc)?)?;
     let mut body = Items::new(alloc);
     body.push(Item::Set {
         line: 10,
@@ -158,13 +145,19 @@ fn body(alloc: Global) -> Result<Items<Item>, Memory>
         at: variable(ROW_LINE),
         value: Expr::Read(RIGHT_SIDE, variable(ROW_LINE)),
     })?;
-    body.push(inner)?;
+    body.push(Item::For {
+        line: PLACE_LINE,
+        name: name(b"p"),
+        lo,
+        hi,
+        body: inner,
+    })?;
     Ok(body)
 }
 
 /// The nest of unit forward substitution.
 pub fn forward_loop(alloc: Global) -> Result<Nest, Memory>
-    ensures { IfOk result (λ nest. nest ≡ forward_loop) }
+    ensures { IfOk result (λ nest. nest ≡ unit_forward) }
 {
     let decls = declarations(alloc)?;
     let props = properties(alloc)?;

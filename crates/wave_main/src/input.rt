@@ -1,6 +1,6 @@
 // What a run works on.
 ghost use Rattle.std.specs.Prelude.{◌≡◌, IfOk};
-ghost use Rattle.wave_main.specs.ForwardLoop.{forward_loop};
+ghost use Rattle.loop_core.specs.UnitForward.{unit_forward};
 
 use crate::fetch::fetch_file;
 use crate::forward::forward_loop;
@@ -102,7 +102,7 @@ fn no_words(alloc: Global) -> Words {
 
 /// The nest of unit forward substitution over a matrix and a right side; the solution begins at 0.
 fn forward_input(alloc: Global, matrix: PlainArrays, right_side: Words) -> Result<Input, Memory>
-    ensures { IfOk result (λ input. input.nest ≡ forward_loop) }
+    ensures { IfOk result (λ input. input.nest ≡ unit_forward) }
 {
     let nest = forward_loop(alloc)?;
     let rows = matrix.rows;
@@ -132,7 +132,7 @@ fn forward_input(alloc: Global, matrix: PlainArrays, right_side: Words) -> Resul
 
 /// The input that the files of a run are, or the first of them that has a form that isn't built.
 pub fn judge(alloc: Global, files: RunBytes) -> Result<Input, Status>
-    ensures { IfOk result (λ input. input.nest ≡ forward_loop) }
+    ensures { IfOk result (λ input. input.nest ≡ unit_forward) }
 {
     if !is_built_loop(&files.loop_file) {
         return Err(Status::NotBuilt { word: 1 });

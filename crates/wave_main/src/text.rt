@@ -1,41 +1,17 @@
 // The printed text of the arrays that a nest writes.
 ghost use Rattle.std.specs.Prelude.{◌≡◌, ◌≤◌, ◌+◌, ◌++◌, List, length, codes, decimal, IfOk, OnOk, slice_index_or, [], ℤ};
-ghost use Rattle.std.specs.List.{list_any, flat_map};
+ghost use Rattle.std.specs.List.{flat_map};
 ghost use Rattle.std.specs.Fmt.{signed_decimal};
 ghost use Rattle.loop_core.specs.Sizes.{sizes, sizes_of};
 ghost use Rattle.wave_main.specs.Status.{line};
-ghost use Rattle.wave_main.specs.ArrayText.{item_writes, array_text, arrays_text, data_of, written_text};
+ghost use Rattle.wave_main.specs.ArrayText.{array_text, arrays_text, data_of, written_text};
 
 use itoa::Buffer;
 use loop_core::decl::{Decl, DeclKind};
-use loop_core::nest::{Item, Nest};
+use loop_core::nest::Nest;
 use loop_core::values::Values;
 use std::alloc::Global;
 use wave_base::types::{ArrayId, Memory};
-
-#[cycle(writes)]
-fn any_writes(items: &[Item], array: ArrayId) -> bool
-    ensures { result ≡ list_any (item_writes array.0) items.now }
-{
-    for item in items {
-        if writes(item, array) {
-            return true;
-        }
-    }
-    false
-}
-
-/// Whether the item, or one inside it, writes the array.
-#[cycle(writes)]
-fn writes(item: &Item, array: ArrayId) -> bool
-    ensures { result ≡ item_writes array.0 item.now }
-{
-    match item {
-        Item::For { body, .. } => any_writes(body.as_slice(), array),
-        Item::When { body, .. } => any_writes(body.as_slice(), array),
-        Item::Set { array: target, .. } => target.0 == array.0,
-    }
-}
 
 fn put_value(text: &mut Vec<u8>, value: i64) -> Result<(), Memory>
     ensures { OnOk result (text.new.items ≡ text.old.items ++ line (signed_decimal value)) }
@@ -77,9 +53,9 @@ fn put_array(
     name: &[u8],
     suffix: &[u8],
 ) -> Result<(), Memory>
-    ensures { OnOk result (text.new.items ≡ text.old.items ++ written_text nest.now values.now (record { number = array.0; name = name.now ++ suffix.now })) }
+    ensures { OnOk result (text.new.items ≡ text.old.items ++ written_text nest.now values.now (record { array = array; name = name.now ++ suffix.now })) }
 {
-    if !any_writes(nest.body.as_slice(), array) {
+    if !nest.writes(array) {
         return Ok(());
     }
     let list = values.words(array);
