@@ -10,3 +10,6 @@ pub mod PlainMatrixTexts
 pub mod PlainCounts
 pub mod PlainRows
 pub mod PlainMatrices
+pub mod JudgeLaws
+pub mod EndLaws
+pub mod ReportLaws

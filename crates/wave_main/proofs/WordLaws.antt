@@ -157,3 +157,6 @@ pub too_short_texts : (xs : List (String Global)) (w : List ℕ) → slice_get (
 too_short_texts xs w first right gone =
     let P : ℕ → Type 0 = λ n. IsUsageAt IsRun (texts xs) n in
     subst P (length-texts xs) (too_short (texts xs) w first right gone)
+
+pub one_file : (xs : List (String Global)) → length (texts xs) ≡ length xs
+one_file xs = length-texts xs

@@ -8,3 +8,6 @@ pub mod PlainBuilding
 pub mod PlainMatrixReading
 pub mod PlainVectorReading
 pub mod Files
+pub mod Commands
+pub mod Run
+pub mod Answers

@@ -26,9 +26,3 @@ pub record IsUsageAt (IsCommand : List (List ℕ) → Type 0) (words : List (Lis
   pub within : place ≤ length words
   pub begins : IsBeginning IsCommand (take place words)
   pub longest : (k : ℕ) → k ≤ length words → IsBeginning IsCommand (take k words) → k ≤ place
-
--- the words of a run that is built: one worker and one file
-abbrev pub IsBuiltRun : List (List ℕ) → Type 0
-IsBuiltRun words =
-    (loop_file matrix vector : List ℕ)
-    × (words ≡ codes "run" ∷ loop_file ∷ matrix ∷ codes "1" ∷ vector ∷ [])

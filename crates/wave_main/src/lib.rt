@@ -4,6 +4,7 @@
 pub mod fetch;
 pub mod forward;
 pub mod input;
+pub mod judge;
 pub mod plain;
 pub mod report;
 pub mod status;

@@ -1,11 +1,14 @@
 // The top calls.
-ghost use Rattle.std.specs.Prelude.{◌<◌, ◌^◌, length};
+ghost use Rattle.std.specs.Prelude.{◌<◌, ◌^◌, ◌≡◌, length};
+ghost use Rattle.wave_main.specs.Run.{RunFiles, AreFilesOf, RunEnds, status_of};
+ghost use Rattle.wave_main.specs.Words.{texts};
 
-use crate::input::{RunNames, fetch_run, judge};
+use crate::fetch::fetch_run;
+use crate::judge::judge;
 use crate::report::report;
 use crate::status::Status;
 use crate::text::arrays_text;
-use crate::words::{RunWords, run_usage, run_words, word_at};
+use crate::words::{run_names, word_at};
 use loop_meaning::run::run_in_order;
 use std::alloc::Global;
 use std::sync::Wait;
@@ -27,34 +30,25 @@ fn is_quiet_command(words: &[String]) -> bool {
     }
 }
 
-/// The names of the files of a run that is built: one worker and one data file.
-fn built_names<'a>(run: &RunWords<'a>) -> Result<RunNames<'a>, Status> {
-    if run.workers != "1" {
-        return Err(Status::NotBuilt { word: 3 });
-    }
-    match word_at(run.files, 0) {
-        Some(vector) if run.files.len() == 1 => Ok(RunNames {
-            loop_file: run.loop_file,
-            matrix: run.matrix,
-            vector,
-        }),
-        _ => Err(Status::NotBuilt { word: 4 }),
-    }
-}
-
-fn run<L: Library, O: Sink>(
+/// Runs the loop that the words and the files name, and puts the arrays that it writes.
+fn try_run<L: Library, O: Sink>(
     alloc: Global,
     words: &[String],
     lib: &mut L,
     out: &mut O,
 ) -> Result<(), Status>
     requires { length words.now < 2 ^ 32 }
+    ensures { (files : RunFiles) × AreFilesOf (L.held lib.old) (texts words.now) files
+        × RunEnds (texts words.now) files (record {
+          reads_before = L.faults lib.old;
+          reads_after = L.faults lib.new;
+          before = O.written out.old;
+          after = O.written out.new;
+          faults_before = O.faults out.old;
+          faults_after = O.faults out.new;
+        }) (status_of result) }
 {
-    if let Some(word) = run_usage(words) {
-        return Err(Status::Usage { word });
-    }
-    let run = run_words(words);
-    let names = built_names(&run)?;
+    let names = run_names(words)?;
     let files = fetch_run(alloc, lib, &names)?;
     let mut input = judge(alloc, files)?;
     run_in_order(&input.nest, &input.arrays, &mut input.values);
@@ -65,7 +59,9 @@ fn run<L: Library, O: Sink>(
     }
 }
 
-fn ended(outcome: Result<(), Status>) -> Status {
+fn ended(outcome: Result<(), Status>) -> Status
+    ensures { result ≡ status_of outcome }
+{
     match outcome {
         Ok(()) => Status::Done,
         Err(status) => status,
@@ -104,7 +100,7 @@ pub fn wave_main<R: AllocGlobal + Threads + Wait, L: Library, O: Sink, E: Sink, 
 {
     match word_at(words, 0) {
         Some("run") => {
-            let status = ended(run(rt.alloc(), words, lib, out));
+            let status = ended(try_run(rt.alloc(), words, lib, out));
             report(err, status);
             status
         }

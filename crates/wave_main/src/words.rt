@@ -1,8 +1,10 @@
 // The words of the command line.
-ghost use Rattle.std.specs.Prelude.{◌≡◌, ℕ, MatchOption, length, ◌<◌, ◌≤◌, ◌^◌, slice_get};
+ghost use Rattle.std.specs.Prelude.{◌≡◌, ℕ, MatchOption, length, ◌<◌, ◌≤◌, ◌^◌, slice_get, IfOk, IfErr, OnOk, IsTrue, ◌↔◌};
 ghost use Rattle.std.specs.Option.{option_copied};
 ghost use Rattle.wave_main.specs.Words.{IsWorkers, IsRun, IsUsageAt, texts};
+ghost use Rattle.wave_main.specs.Run.{IsBuiltRun, HasOneWorker, HasOneFile, AreNames, RefusesWords};
 
+use crate::status::Status;
 use itoa::Buffer;
 
 /// The number of workers that a word names: 1 to 64 in digits without a leading zero.
@@ -49,23 +51,59 @@ pub fn run_usage(words: &[String]) -> Option<u32>
     }
 }
 
-/// The words of a run, taken apart. `workers` is the word itself, which is from `1` to `64`.
+/// The names of the files of a run that is built.
 #[derive(Clone, Copy)]
-pub struct RunWords<'a> {
+pub struct RunNames<'a> {
     pub loop_file: &'a str,
     pub matrix: &'a str,
-    pub workers: &'a str,
-    pub files: &'a [String],
+    pub vector: &'a str,
 }
 
-/// Takes the words of a run apart.
-pub fn run_words(words: &[String]) -> RunWords<'_>
-    requires { 4 ≤ length words.now }
+/// The names in the words of a run.
+fn file_names(words: &[String]) -> RunNames<'_>
+    requires { length words.now ≡ 5 }
+    ensures { AreNames (texts words.now) result.loop_file.now result.matrix.now result.vector.now }
 {
-    RunWords {
+    RunNames {
         loop_file: words[1].as_str(),
         matrix: words[2].as_str(),
-        workers: words[3].as_str(),
-        files: &words[4..],
+        vector: words[4].as_str(),
     }
+}
+
+fn has_one_worker(words: &[String]) -> bool
+    ensures { IsTrue result ↔ HasOneWorker (texts words.now) }
+{
+    match word_at(words, 3) {
+        Some(count) => count == "1",
+        None => false,
+    }
+}
+
+#[tactic(auto, using(crate::proofs::WordLaws::one_file))]
+fn has_one_file(words: &[String]) -> bool
+    ensures files { IsTrue result ↔ HasOneFile (texts words.now) }
+    ensures length { IsTrue result → length words.now ≡ 5 }
+{
+    words.len() == 5
+}
+
+/// The names of the files of a run with one worker and one data file, which is the run that is
+/// built; of other words the refusal.
+pub fn run_names(words: &[String]) -> Result<RunNames<'_>, Status>
+    requires { length words.now < 2 ^ 32 }
+    ensures built { OnOk result (IsBuiltRun (texts words.now)) }
+    ensures names { IfOk result (λ names. AreNames (texts words.now) names.loop_file.now names.matrix.now names.vector.now) }
+    ensures refused { IfErr result (RefusesWords (texts words.now)) }
+{
+    if let Some(word) = run_usage(words) {
+        return Err(Status::Usage { word });
+    }
+    if !has_one_worker(words) {
+        return Err(Status::NotBuilt { word: 3 });
+    }
+    if !has_one_file(words) {
+        return Err(Status::NotBuilt { word: 4 });
+    }
+    Ok(file_names(words))
 }
