@@ -50,6 +50,7 @@ fn read_vector(alloc: Global, bytes: &[u8]) -> Result<Option<Words>, Memory>
     let Some((length, rest)) = vector_size(bytes) else {
         return Ok(None);
     };
+    // no more room than the text could fill, whatever its size line says
     let room = (rest.len() / 2 + 1).min(length as usize);
     let mut values = Vec::with_capacity(alloc, room)?;
     if take_values(length, &mut values, rest)? {
