@@ -189,3 +189,6 @@ answer_found bytes (Some values) e = vector_found bytes values (sym e)
 
 pub answer_only : (bytes : List ℕ) (o : Option (List ℤ)) → o ≡ vector_at bytes → (values : List ℤ) → IsPlainVector bytes values → o ≡ Some values
 answer_only bytes o e values p = e ∙ vector_finds bytes values p
+
+pub one_vector : (bytes : List ℕ) (vs ws : List ℤ) → IsPlainVector bytes vs → IsPlainVector bytes ws → vs ≡ ws
+one_vector bytes vs ws p q = some_is vs ws (sym (vector_finds bytes vs p) ∙ vector_finds bytes ws q)

@@ -53,6 +53,7 @@ fn read_matrix(alloc: Global, bytes: &[u8]) -> Result<Option<PlainArrays>, Memor
 pub fn read_plain_matrix(alloc: Global, bytes: &[u8]) -> Result<Option<PlainArrays>, Memory>
     ensures found { IfOk result (λ found. IfSome found (λ a. (m : PlainMatrix) × IsPlainMatrix bytes.now m × (a ≡ arrays_of m))) }
     ensures only { IfOk result (λ found. (m : PlainMatrix) → IsPlainMatrix bytes.now m → found ≡ Some (arrays_of m)) }
+    ensures one { (k l : PlainMatrix) → IsPlainMatrix bytes.now k → IsPlainMatrix bytes.now l → k ≡ l }
 {
     read_matrix(alloc, bytes)
 }

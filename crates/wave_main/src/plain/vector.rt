@@ -65,6 +65,7 @@ fn read_vector(alloc: Global, bytes: &[u8]) -> Result<Option<Words>, Memory>
 pub fn read_plain_vector(alloc: Global, bytes: &[u8]) -> Result<Option<Words>, Memory>
     ensures found { IfOk result (λ found. IfSome found (λ values. IsPlainVector bytes.now values)) }
     ensures only { IfOk result (λ found. (values : List ℤ) → IsPlainVector bytes.now values → found ≡ Some values) }
+    ensures one { (v w : List ℤ) → IsPlainVector bytes.now v → IsPlainVector bytes.now w → v ≡ w }
 {
     read_vector(alloc, bytes)
 }
