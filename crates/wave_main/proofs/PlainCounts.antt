@@ -40,7 +40,7 @@ numbers_same f g n h = same_on f g 0 n (λ i lo hi. h i (omega arith))
 pub numbers_more : (f : ℕ → ℕ) (n : ℕ) → numbers_for (n + 1) f ≡ numbers_for n f ++ pos (f n) ∷ []
 numbers_more f n = map-range_with_len_more (λ i. pos (f i)) 0 n n (omega arith)
 
-length_push : (p : List ℤ) (z : ℤ) → length (p ++ z ∷ []) ≡ length p + 1
+pub length_push : (p : List ℤ) (z : ℤ) → length (p ++ z ∷ []) ≡ length p + 1
 length_push p z = length-append p (z ∷ [])
 
 -- the numbers p count, for each place, the elements of a list that pass its test

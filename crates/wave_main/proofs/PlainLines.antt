@@ -1,5 +1,6 @@
 -- Bytes, fixed texts and ends of lines: what was found, and what is found.
 use Rattle.std.proofs.Common.{◌≡◌, ◌⊎◌, inl, inr, ℕ, Bool, true, false, cond, eqb, List, [], ◌∷◌, ◌++◌, Option, Some, None, refl, sym, ap, ◌∙◌, arith}
+use Rattle.std.specs.Prelude.{◌&&◌}
 use Rattle.std.proofs.lemmas.Bool.Decides.{nat_tests}
 use Rattle.wave_main.specs.PlainReading.{◌>>=◌, byte_at, text_at, close_at}
 
@@ -16,6 +17,10 @@ same_eqb b = grind (arith, nat_tests)
 
 pub from_eqb : (b c : ℕ) → eqb b c ≡ true → b ≡ c
 from_eqb b c e = grind (arith, nat_tests)
+
+pub both_true : (a b : Bool) → (a && b) ≡ true → (a ≡ true) × (b ≡ true)
+both_true true b e = (refl, e)
+both_true false b e = absurd cc
 
 -- what a chain found, it found step by step
 pub bind_some : {A B : Type 0} (o : Option A) (f : A → Option B) (y : B) → (o >>= f) ≡ Some y → (x : A) × (o ≡ Some x) × (f x ≡ Some y)

@@ -1,23 +1,23 @@
 -- A matrix file: what is read is what is written, and what is written is read.
-use Rattle.std.proofs.Common.{◌≡◌, ◌⊎◌, inl, inr, ℕ, suc, ℤ, pos, ◌+◌, ◌<◌, ◌≤◌, Bool, true, false, cond, eqb, ltb, List, [], ◌∷◌, ◌++◌, length, Option, Some, None, refl, sym, ap, subst, ◌∙◌, arith, map, length-append, append_assoc}
-use Rattle.std.specs.Prelude.{codes, IfSome, ◌&&◌}
+use Rattle.std.proofs.Common.{◌≡◌, ◌⊎◌, inl, inr, ℕ, ◌^◌, suc, ℤ, pos, ◌+◌, ◌<◌, ◌≤◌, Bool, true, cond, eqb, ltb, List, [], ◌∷◌, ◌++◌, length, Option, Some, None, refl, sym, ap, subst, ◌∙◌, arith, map, length-append, append_assoc}
+use Rattle.std.specs.Prelude.{IfSome}
 use Rattle.std.specs.List.{All, AllPairs, count_by}
 use Rattle.std.proofs.lemmas.Bool.Decides.{nat_tests}
 use Rattle.std.proofs.lemmas.List.{append-nil}
-use Rattle.std.proofs.lemmas.List.Elements.{All-weaker}
+use Rattle.std.proofs.lemmas.List.Elements.{All-weaker, All-head, All-tail}
 use Rattle.wave_main.specs.declared.plain.entry.PlainEntry.{PlainEntry}
 use Rattle.wave_main.specs.declared.plain.rows.PlainArrays.{PlainArrays}
-use Rattle.wave_main.specs.PlainText.{Precedes, HasDiagonal, IsWithin, PlainMatrix, IsWrittenAs, IsPlainMatrix}
+use Rattle.wave_main.specs.PlainText.{Precedes, HasDiagonal, IsWithin, PlainMatrix, IsWrittenAs, IsPlainMatrix, matrix_header}
 use Rattle.wave_main.specs.PlainArraysOf.{stands_above, stands_before_diagonal, numbers_for, arrays_of}
 use Rattle.wave_main.specs.PlainReading.{◌>>=◌, after_header, matrix_size_at}
 use Rattle.wave_main.specs.PlainBuilding.{Building, nothing_built, fits, added, is_whole, finished}
 use Rattle.wave_main.specs.PlainMatrixReading.{entries_at, whole, matrix_at}
-use Rattle.wave_main.proofs.PlainLines.{known, bind_some, if_some}
-use Rattle.wave_main.proofs.PlainTakes.{TakesLine, written_from_takes, takes_from_written}
+use Rattle.wave_main.proofs.PlainLines.{known, some_is, bind_some, if_some, both_true}
+use Rattle.wave_main.proofs.PlainTakes.{TakesLine, TakesLines, written_from_takes, takes_from_written}
 use Rattle.wave_main.proofs.PlainVectors.{header_found, header_finds, whole_found}
-use Rattle.wave_main.proofs.PlainMatrixTexts.{Size, sized, size_text, size_line, IsSizeLine, size_line_found, size_line_finds, entry_text, built, builds_one, if_is, entries_found, entries_find, lines_of, text_of, lines_some}
+use Rattle.wave_main.proofs.PlainMatrixTexts.{entry_finds, Size, sized, size_text, size_line, IsSizeLine, size_line_found, size_line_finds, entry_text, built, builds_one, if_is, entries_found, entries_find, lines_of, text_of, lines_some}
 use Rattle.wave_main.proofs.PlainCounts.{count_all, numbers_more, all_before, all_behind, any_cons, any_append, any_all}
-use Rattle.wave_main.proofs.PlainRows.{Below, IsLast, Stands, stands_first, stands_more, below_row, Begins, GoesOn, fits_next}
+use Rattle.wave_main.proofs.PlainRows.{Below, IsLast, Stands, stands_first, stands_more, below_row, Begins, GoesOn, fits_next, is_above}
 
 -- ---- the next entry of a matrix in the plain form fits
 
@@ -137,17 +137,10 @@ built_all rows (d ∷ ds) front place b s len pairs inside has =
 
 -- ---- the arrays at the end
 
-both : (a b : Bool) → (a && b) ≡ true → (a ≡ true) × (b ≡ true)
-both true b e = (refl, e)
-both false b e = absurd cc
-
 whole_is : (rows : ℕ) (b : Building) → is_whole rows b ≡ true → (length b.pointers ≡ rows) × (length b.diagonals ≡ rows)
 whole_is rows b t =
-    let h = both (eqb (length b.pointers) rows) (eqb (length b.diagonals) rows) t in
+    let h = both_true (eqb (length b.pointers) rows) (eqb (length b.diagonals) rows) t in
     (grind (arith, nat_tests), grind (arith, nat_tests))
-
-is_above : (rows : ℕ) (e : PlainEntry) → e.row < rows → stands_above rows e ≡ true
-is_above rows e lt = grind (arith, nat_tests)
 
 abbrev arrays : ℕ → List ℤ → List ℤ → List ℤ → List ℤ → PlainArrays
 arrays rows p c d v = record { rows = rows; pointers = p; columns = c; diagonals = d; values = v }
@@ -209,7 +202,7 @@ pub record IsRead (bytes : List ℕ) (a : PlainArrays) : Type 0 where
   pub fits : IsPlainMatrix bytes matrix
   pub arrays : a ≡ arrays_of matrix
 
-read_entries : (bytes : List ℕ) (rest : List ℕ) (size : Size) (a : PlainArrays) → TakesLine (codes "%%MatrixMarket matrix coordinate integer general") bytes rest → IsSizeLine rest size → Answer size ≡ Some a → IsRead bytes a
+read_entries : (bytes : List ℕ) (rest : List ℕ) (size : Size) (a : PlainArrays) → TakesLine matrix_header bytes rest → IsSizeLine rest size → Answer size ≡ Some a → IsRead bytes a
 read_entries bytes rest size a first second e =
     let rows = size.0.rows in
     let h = bind_some (whole (entries_at rows size.0.entries 0 nothing_built size.1)) (λ (b : Building). cond (is_whole rows b) (Some (finished rows size.0.entries b)) None) a e in
@@ -235,16 +228,16 @@ read_entries bytes rest size a first second e =
 pub matrix_found : (bytes : List ℕ) (a : PlainArrays) → matrix_at bytes ≡ Some a → IsRead bytes a
 matrix_found bytes a e =
     let h = bind_some (matrix_size_at bytes) Answer a e in
-    let g = bind_some (after_header (codes "%%MatrixMarket matrix coordinate integer general") bytes) size_line h.0 h.1 in
-    read_entries bytes g.0 h.0 a (header_found (codes "%%MatrixMarket matrix coordinate integer general") bytes g.0 g.1) (size_line_found g.0 h.0 g.2) h.2
+    let g = bind_some (after_header matrix_header bytes) size_line h.0 h.1 in
+    read_entries bytes g.0 h.0 a (header_found matrix_header bytes g.0 g.1) (size_line_found g.0 h.0 g.2) h.2
 
 answer_is : (rows entries : ℕ) (rest : List ℕ) (b : Building) → entries_at rows entries 0 nothing_built rest ≡ Some (b, []) → is_whole rows b ≡ true → Answer (sized rows entries, rest) ≡ Some (finished rows entries b)
 answer_is rows entries rest b e t = rw (e, t) refl
 
 pub matrix_finds : (bytes : List ℕ) (m : PlainMatrix) → IsPlainMatrix bytes m → matrix_at bytes ≡ Some (arrays_of m)
 matrix_finds bytes m p =
-    let takes = takes_from_written (codes "%%MatrixMarket matrix coordinate integer general") (size_text m.rows (length m.entries) ∷ map entry_text m.entries) bytes (subst (IsWrittenAs bytes) (sym (text_of m)) p.written) in
-    let first = header_finds (codes "%%MatrixMarket matrix coordinate integer general") bytes takes.0 takes.1 in
+    let takes = takes_from_written matrix_header (size_text m.rows (length m.entries) ∷ map entry_text m.entries) bytes (subst (IsWrittenAs bytes) (sym (text_of m)) p.written) in
+    let first = header_finds matrix_header bytes takes.0 takes.1 in
     let rest = takes.2 in
     let second = size_line_finds takes.0 m.rows (length m.entries) rest.0 rest.1 p.few_rows p.few_entries in
     let inside = All-weaker (IsWithin m.rows) (λ e. e.row < m.rows) (λ e w. w.row) m.entries p.within in
@@ -262,3 +255,46 @@ answer_found bytes (Some a) e =
 
 pub answer_only : (bytes : List ℕ) (o : Option PlainArrays) → o ≡ matrix_at bytes → (m : PlainMatrix) → IsPlainMatrix bytes m → o ≡ Some (arrays_of m)
 answer_only bytes o e m p = e ∙ matrix_finds bytes m p
+
+-- ---- one text, one matrix
+
+same_entries : (rows : ℕ) (ds es : List PlainEntry) (s : List ℕ) → rows ≤ 2 ^ 20 → length ds ≡ length es → TakesLines (map entry_text ds) s [] → TakesLines (map entry_text es) s [] → All (IsWithin rows) ds → All (IsWithin rows) es → ds ≡ es
+same_entries rows [] [] s few len a b v w = refl
+same_entries rows [] (e ∷ es) s few len a b v w = absurd (omega arith)
+same_entries rows (d ∷ ds) [] s few len a b v w = absurd (omega arith)
+same_entries rows (d ∷ ds) (e ∷ es) s few len a b v w =
+    let one = entry_finds rows s d a.0 a.1 (All-head (IsWithin rows) d ds v) few in
+    let two = entry_finds rows s e b.0 b.1 (All-head (IsWithin rows) e es w) few in
+    let both_are = some_is (d, a.0) (e, b.0) (sym one ∙ two) in
+    let same : d ≡ e = ap (λ (x : PlainEntry × List ℕ). x.0) both_are in
+    let after : a.0 ≡ b.0 = ap (λ (x : PlainEntry × List ℕ). x.1) both_are in
+    let rest = same_entries rows ds es b.0 few (omega arith) (subst (λ (u : List ℕ). TakesLines (map entry_text ds) u []) after a.2) b.2 (All-tail (IsWithin rows) d ds v) (All-tail (IsWithin rows) e es w) in
+    ap (λ (x : PlainEntry). x ∷ ds) same ∙ ap (λ (l : List PlainEntry). e ∷ l) rest
+
+-- what a text says of its matrix
+record Says (bytes : List ℕ) (m : PlainMatrix) : Type 0 where
+  pub rest : List ℕ
+  pub size : matrix_size_at bytes ≡ Some (sized m.rows (length m.entries), rest)
+  pub lines : TakesLines (map entry_text m.entries) rest []
+
+says : (bytes : List ℕ) (m : PlainMatrix) → IsPlainMatrix bytes m → Says bytes m
+says bytes m p =
+    let takes = takes_from_written matrix_header (size_text m.rows (length m.entries) ∷ map entry_text m.entries) bytes (subst (IsWrittenAs bytes) (sym (text_of m)) p.written) in
+    let first = header_finds matrix_header bytes takes.0 takes.1 in
+    let rest = takes.2 in
+    let second = size_line_finds takes.0 m.rows (length m.entries) rest.0 rest.1 p.few_rows p.few_entries in
+    record { rest = rest.0; size = ap (λ (o : Option (List ℕ)). o >>= size_line) first ∙ second; lines = rest.2 }
+
+same_matrix : (k l : PlainMatrix) → k.rows ≡ l.rows → k.entries ≡ l.entries → k ≡ l
+same_matrix k l e f = rw (e, f) refl
+
+pub one_matrix : (bytes : List ℕ) (k l : PlainMatrix) → IsPlainMatrix bytes k → IsPlainMatrix bytes l → k ≡ l
+one_matrix bytes k l p q =
+    let a = says bytes k p in
+    let b = says bytes l q in
+    let both_are = some_is (sized k.rows (length k.entries), a.rest) (sized l.rows (length l.entries), b.rest) (sym a.size ∙ b.size) in
+    let rows : k.rows ≡ l.rows = ap (λ (x : Size). x.0.rows) both_are in
+    let len : length k.entries ≡ length l.entries = ap (λ (x : Size). x.0.entries) both_are in
+    let after : a.rest ≡ b.rest = ap (λ (x : Size). x.1) both_are in
+    let inside = subst (λ (n : ℕ). All (IsWithin n) k.entries) rows p.within in
+    same_matrix k l rows (same_entries l.rows k.entries l.entries b.rest q.few_rows len (subst (λ (u : List ℕ). TakesLines (map entry_text k.entries) u []) after a.lines) b.lines inside q.within)

@@ -1,6 +1,5 @@
 -- The lines of a matrix file: what is read is what is written, and what is written is read.
 use Rattle.std.proofs.Common.{◌≡◌, ℕ, zero, suc, ℤ, ◌+◌, ◌^◌, ◌≤◌, Bool, true, false, cond, eqb, List, [], ◌∷◌, ◌++◌, length, get_or, Option, Some, None, refl, sym, ap, subst, ◌∙◌, append_assoc, arith, map}
-use Rattle.std.specs.Prelude.{codes}
 use Rattle.std.specs.Fmt.{decimal, signed_decimal}
 use Rattle.std.specs.List.{flat_map, All}
 use Rattle.std.proofs.lemmas.List.Elements.{All-nil, All-cons, All-head, All-tail, All-map}
@@ -10,7 +9,7 @@ use Rattle.wave_main.specs.declared.plain.sizes.MatrixSize.{MatrixSize}
 use Rattle.wave_main.specs.PlainReading.{◌>>=◌, byte_at, close_at, number_at, columns_at, place_at, integer_at, entry_at}
 use Rattle.wave_main.specs.PlainBuilding.{Building, fits, added}
 use Rattle.wave_main.specs.PlainMatrixReading.{entries_at}
-use Rattle.wave_main.specs.PlainText.{text_line, spaced, PlainMatrix, matrix_text, IsWithin}
+use Rattle.wave_main.specs.PlainText.{text_line, spaced, PlainMatrix, matrix_text, IsWithin, matrix_header}
 use Rattle.wave_main.proofs.PlainLines.{some_is, bind_some, if_some, from_eqb, same_eqb, byte_found}
 use Rattle.wave_main.proofs.PlainNumbers.{begins_with_digit, number_found, number_finds, place_found, place_finds, integer_found, integer_finds}
 use Rattle.wave_main.proofs.PlainTakes.{TakesLine, TakesLines, IsSome, takes_from_close, ends_from_takes}
@@ -85,7 +84,7 @@ size_line_found s x e =
     let rows = number_found (2 ^ 20) s n h₁.0.1 h₁.1 in
     let entries = number_found (2 ^ 23) h₄.0 l h₅.0.1 h₅.1 in
     let text = three_found (decimal n) (decimal n) (decimal l) s h₁.0.1 h₂.0 h₃.0 h₄.0 h₅.0.1 rows.0 (byte_found 32 h₁.0.1 h₂.0 h₂.1) (columns_found n h₂.0 h₃.0 h₃.1) (byte_found 32 h₃.0 h₄.0 h₄.1) entries.0 in
-    subst (IsSizeLine s) (some_is (sized n l, h₆.0) x h₆.2) (record { line = takes_from_close (size_text n l) s h₅.0.1 h₆.0 text h₆.1; few_rows = rows.1; few_entries = entries.1 })
+    subst (IsSizeLine s) {x = (sized n l, h₆.0)} (some_is (sized n l, h₆.0) x h₆.2) (record { line = takes_from_close (size_text n l) s h₅.0.1 h₆.0 text h₆.1; few_rows = rows.1; few_entries = entries.1 })
 
 pub size_line_finds : (s : List ℕ) (n l : ℕ) (t : List ℕ) → TakesLine (size_text n l) s t → n ≤ 2 ^ 20 → l ≤ 2 ^ 23 → size_line s ≡ Some (sized n l, t)
 size_line_finds s n l t h few_n few_l =
@@ -142,7 +141,7 @@ entry_found rows s x e =
     let column = place_found rows h₂.0 j h₃.0.1 h₃.1 in
     let value = integer_found h₄.0 a h₅.0.1 h₅.1 in
     let text = three_found (decimal (i + 1)) (decimal (j + 1)) (signed_decimal a) s h₁.0.1 h₂.0 h₃.0.1 h₄.0 h₅.0.1 row.0 (byte_found 32 h₁.0.1 h₂.0 h₂.1) column.0 (byte_found 32 h₃.0.1 h₄.0 h₄.1) value.0 in
-    subst (IsEntryLine rows s) (some_is (made i j a, h₆.0) x h₆.2) (record { line = takes_from_close (entry_text (made i j a)) s h₅.0.1 h₆.0 text h₆.1; within = record { row = row.1; column = column.1; value = value.1 } })
+    subst (IsEntryLine rows s) {x = (made i j a, h₆.0)} (some_is (made i j a, h₆.0) x h₆.2) (record { line = takes_from_close (entry_text (made i j a)) s h₅.0.1 h₆.0 text h₆.1; within = record { row = row.1; column = column.1; value = value.1 } })
 
 pub entry_finds : (rows : ℕ) (s : List ℕ) (d : PlainEntry) (t : List ℕ) → TakesLine (entry_text d) s t → IsWithin rows d → rows ≤ 2 ^ 20 → entry_at rows s ≡ Some (d, t)
 entry_finds rows s d t h within few =
@@ -202,10 +201,10 @@ entries_find rows (d ∷ ds) place b s b₂ t few h within e =
 -- ---- the lines of the whole file
 
 abbrev pub lines_of : PlainMatrix → List (List ℕ)
-lines_of m = codes "%%MatrixMarket matrix coordinate integer general" ∷ size_text m.rows (length m.entries) ∷ map entry_text m.entries
+lines_of m = matrix_header ∷ size_text m.rows (length m.entries) ∷ map entry_text m.entries
 
 pub text_of : (m : PlainMatrix) → flat_map text_line (lines_of m) ≡ matrix_text m
-text_of m = ap (λ (x : List ℕ). text_line (codes "%%MatrixMarket matrix coordinate integer general") ++ (text_line (size_text m.rows (length m.entries)) ++ x)) (flat_map-map text_line entry_text m.entries)
+text_of m = ap (λ (x : List ℕ). text_line matrix_header ++ (text_line (size_text m.rows (length m.entries)) ++ x)) (flat_map-map text_line entry_text m.entries)
 
 entry_some : (d : PlainEntry) → IsSome (entry_text d)
 entry_some d = past_some (decimal (d.row + 1)) 32 (spaced (decimal (d.column + 1)) (signed_decimal d.value))
@@ -213,4 +212,4 @@ entry_some d = past_some (decimal (d.row + 1)) 32 (spaced (decimal (d.column + 1
 pub lines_some : (m : PlainMatrix) → All IsSome (lines_of m)
 lines_some m =
     let entries = All-map IsSome entry_text m.entries (λ k d lt. entry_some (get_or m.entries k d)) in
-    All-cons IsSome (codes "%%MatrixMarket matrix coordinate integer general") (size_text m.rows (length m.entries) ∷ map entry_text m.entries) (omega arith) (All-cons IsSome (size_text m.rows (length m.entries)) (map entry_text m.entries) (past_some (decimal m.rows) 32 (spaced (decimal m.rows) (decimal (length m.entries)))) entries)
+    All-cons IsSome matrix_header (size_text m.rows (length m.entries) ∷ map entry_text m.entries) (omega arith) (All-cons IsSome (size_text m.rows (length m.entries)) (map entry_text m.entries) (past_some (decimal m.rows) 32 (spaced (decimal m.rows) (decimal (length m.entries)))) entries)

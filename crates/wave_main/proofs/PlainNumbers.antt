@@ -8,7 +8,7 @@ use Rattle.std.proofs.lemmas.Bool.Decides.{nat_tests}
 use Rattle.std.proofs.lemmas.Str.Parse.{IsNumeralModel, numerals_by_fold}
 use Rattle.std.proofs.lemmas.Fmt.{digits_decimal, digits_value-decimal, decimal-digits_value, decimal_digit, decimal_nonempty, first_decimal}
 use Rattle.wave_main.specs.PlainReading.{is_digit, digits_at, natural_at, positive_at, negative_at, integer_at, place_at, number_at}
-use Rattle.wave_main.proofs.PlainLines.{known, some_is, bind_some, if_some}
+use Rattle.wave_main.proofs.PlainLines.{known, some_is, bind_some, if_some, both_true}
 
 -- the number of digits behind a number
 abbrev pub behind : ℕ → List ℕ → ℕ
@@ -22,10 +22,6 @@ own = numerals_by_fold _ (search rules) behind (search rules)
 abbrev pub begins_with_digit : List ℕ → Bool
 begins_with_digit [] = false
 begins_with_digit (b ∷ bs) = is_digit b
-
-and_both : (a b : Bool) → (a && b) ≡ true → (a ≡ true) × (b ≡ true)
-and_both true b e = (refl, e)
-and_both false b e = absurd cc
 
 both_and : (a b : Bool) → a ≡ true → b ≡ true → (a && b) ≡ true
 both_and a b e f = rw (e, f) refl
@@ -100,7 +96,7 @@ digits_end n (b ∷ t) e = rw e refl
 digits_find : (n : ℕ) (w t : List ℕ) → all_ascii_digits w ≡ true → behind n w ≤ 2 ^ 63 → begins_with_digit t ≡ false → digits_at n (w ++ t) ≡ Some (behind n w, t)
 digits_find n [] t d le e = digits_end n t e
 digits_find n (b ∷ w) t d le e =
-    let both = and_both (is_digit b) (all_ascii_digits w) d in
+    let both = both_true (is_digit b) (all_ascii_digits w) d in
     let up = behind_le (n * 10 + (b - 48)) w in
     let small : ltb n (10 ^ 18) ≡ true = grind (arith, nat_tests, up) in
     rw (both.0, small) (digits_find (n * 10 + (b - 48)) w t both.1 le e)
@@ -108,7 +104,7 @@ digits_find n (b ∷ w) t d le e =
 natural_digits : (ds t : List ℕ) → all_ascii_digits ds ≡ true → 48 < get_or ds 0 0 → behind 0 ds ≤ 2 ^ 63 → begins_with_digit t ≡ false → natural_at (ds ++ t) ≡ Some (behind 0 ds, t)
 natural_digits [] t d lt le e = absurd (omega arith)
 natural_digits (b ∷ w) t d lt le e =
-    let both = and_both (is_digit b) (all_ascii_digits w) d in
+    let both = both_true (is_digit b) (all_ascii_digits w) d in
     let no : eqb b 48 ≡ false = grind (arith, nat_tests) in
     let k : 0 * 10 + (b - 48) ≡ b - 48 = omega arith in
     let le2 : behind (b - 48) w ≤ 2 ^ 63 = subst (λ (x : ℕ). behind x w ≤ 2 ^ 63) k le in
@@ -146,7 +142,7 @@ pub place_found : (limit : ℕ) (s : List ℕ) (v : ℕ) (t : List ℕ) → plac
 place_found limit s v t e =
     let h = bind_some (natural_at s) (λ (x : ℕ × List ℕ). cond (leb 1 x.0 && leb x.0 limit) (Some (x.0 - 1, x.1)) None) (v, t) e in
     let f = if_some (leb 1 h.0.0 && leb h.0.0 limit) (h.0.0 - 1, h.0.1) (v, t) h.2 in
-    let both = and_both (leb 1 h.0.0) (leb h.0.0 limit) f.0 in
+    let both = both_true (leb 1 h.0.0) (leb h.0.0 limit) f.0 in
     let same_v : h.0.0 - 1 ≡ v = ap (λ (x : ℕ × List ℕ). x.0) f.1 in
     let same_t : h.0.1 ≡ t = ap (λ (x : ℕ × List ℕ). x.1) f.1 in
     let low : 1 ≤ h.0.0 = grind (arith, nat_tests) in
@@ -178,7 +174,7 @@ negative_found : (s : List ℕ) (z : ℤ) (t : List ℕ) → negative_at s ≡ S
 negative_found s z t e =
     let h = bind_some (natural_at s) (λ (x : ℕ × List ℕ). cond (leb 1 x.0 && leb x.0 (2 ^ 63)) (Some (negsuc (x.0 - 1), x.1)) None) (z, t) e in
     let f = if_some (leb 1 h.0.0 && leb h.0.0 (2 ^ 63)) (negsuc (h.0.0 - 1), h.0.1) (z, t) h.2 in
-    let both = and_both (leb 1 h.0.0) (leb h.0.0 (2 ^ 63)) f.0 in
+    let both = both_true (leb 1 h.0.0) (leb h.0.0 (2 ^ 63)) f.0 in
     let low : 1 ≤ h.0.0 = grind (arith, nat_tests) in
     let high : h.0.0 ≤ 2 ^ 63 = grind (arith, nat_tests) in
     let fits : FitsSigned w64 (negsuc (h.0.0 - 1)) = (let small : h.0.0 - 1 < 2 ^ 63 = omega arith in search rules) in
@@ -201,7 +197,7 @@ integer_found (b ∷ s) z t e =
 unsigned : (ds t : List ℕ) → all_ascii_digits ds ≡ true → 0 < length ds → integer_at (ds ++ t) ≡ positive_at (ds ++ t)
 unsigned [] t d lt = absurd (omega arith)
 unsigned (b ∷ w) t d lt =
-    let both = and_both (is_digit b) (all_ascii_digits w) d in
+    let both = both_true (is_digit b) (all_ascii_digits w) d in
     let no : eqb b 45 ≡ false = grind (arith, nat_tests) in
     rw no refl
 

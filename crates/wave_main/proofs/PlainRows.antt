@@ -1,5 +1,5 @@
 -- What the arrays stand for while the entries of a matrix are taken.
-use Rattle.std.proofs.Common.{◌≡◌, ◌⊎◌, inl, inr, ℕ, ℤ, pos, ◌+◌, ◌<◌, ◌≤◌, Bool, true, false, cond, eqb, ltb, leb, List, [], ◌∷◌, ◌++◌, length, refl, sym, ap, subst, ◌∙◌, arith, map, length-append}
+use Rattle.std.proofs.Common.{◌≡◌, ◌⊎◌, inl, inr, ℕ, ℤ, pos, ◌+◌, ◌<◌, ◌≤◌, Bool, true, false, cond, eqb, ltb, leb, List, [], ◌∷◌, ◌++◌, length, refl, sym, ap, subst, ◌∙◌, arith, map}
 use Rattle.std.specs.Prelude.{◌&&◌, ◌||◌}
 use Rattle.std.specs.List.{All, AllPairs, Any}
 use Rattle.std.proofs.lemmas.Bool.Decides.{nat_tests}
@@ -10,8 +10,8 @@ use Rattle.wave_main.specs.declared.plain.entry.PlainEntry.{PlainEntry}
 use Rattle.wave_main.specs.PlainText.{Precedes, HasDiagonal}
 use Rattle.wave_main.specs.PlainArraysOf.{stands_above, stands_before_diagonal}
 use Rattle.wave_main.specs.PlainBuilding.{Building, nothing_built, begins, goes_on, fits, added}
-use Rattle.wave_main.proofs.PlainLines.{known}
-use Rattle.wave_main.proofs.PlainCounts.{Counts, counts_stay, counts_grow, any_more}
+use Rattle.wave_main.proofs.PlainLines.{known, both_true}
+use Rattle.wave_main.proofs.PlainCounts.{Counts, counts_stay, counts_grow, any_more, length_push}
 
 -- in an earlier row than the last one, or in that one up to a column
 abbrev pub Below : ℕ → ℕ → PlainEntry → Type 0
@@ -63,7 +63,7 @@ stands_first = record {
 not_above : (i : ℕ) (e : PlainEntry) → i ≤ e.row → stands_above i e ≡ false
 not_above i e le = grind (arith, nat_tests)
 
-is_above : (i : ℕ) (e : PlainEntry) → e.row < i → stands_above i e ≡ true
+pub is_above : (i : ℕ) (e : PlainEntry) → e.row < i → stands_above i e ≡ true
 is_above i e lt = grind (arith, nat_tests)
 
 or_none : (a b c : Bool) → a ≡ false → (b ≡ true → c ≡ false) → (a || (b && c)) ≡ false
@@ -116,9 +116,6 @@ has_one front e whole more h m row column = λ i lt.
     (λ t. let lower : i < whole = grind (arith, nat_tests) in has_more front e whole h i lower)
     (λ t. let same : i ≡ whole = grind (arith, nat_tests) in Any-push (λ d. (d.row ≡ i) × (d.column ≡ i)) front e (row ∙ sym same, column ∙ sym same))
 
-length_push : (p : List ℤ) (z : ℤ) → length (p ++ z ∷ []) ≡ length p + 1
-length_push p z = length-append p (z ∷ [])
-
 -- the entry begins a row behind a whole one, or goes on in the last row
 abbrev pub Begins : Building → PlainEntry → Type 0
 Begins b e = (e.row ≡ length b.pointers) × (length b.diagonals ≡ length b.pointers) × (e.column ≤ e.row)
@@ -133,10 +130,6 @@ either : (a b : Bool) → (a || b) ≡ true → (a ≡ true) ⊎ (b ≡ true)
 either true b e = inl refl
 either false b e = inr e
 
-both : (a b : Bool) → (a && b) ≡ true → (a ≡ true) × (b ≡ true)
-both true b e = (refl, e)
-both false b e = absurd cc
-
 diagonal_is : (b : Building) (e : PlainEntry) → (leb e.column e.row || ltb e.row (length b.diagonals)) ≡ true → (e.column ≤ e.row) ⊎ (e.row < length b.diagonals)
 diagonal_is b e h =
     elim (either (leb e.column e.row) (ltb e.row (length b.diagonals)) h) as (λ _. (e.column ≤ e.row) ⊎ (e.row < length b.diagonals)) [
@@ -146,16 +139,16 @@ diagonal_is b e h =
 
 next_is : (b : Building) (e : PlainEntry) → fits b e ≡ true → Next b e
 next_is b e f =
-    let h = both (begins b e || goes_on b e) (leb e.column e.row || ltb e.row (length b.diagonals)) f in
+    let h = both_true (begins b e || goes_on b e) (leb e.column e.row || ltb e.row (length b.diagonals)) f in
     let side = diagonal_is b e h.1 in
     elim (either (begins b e) (goes_on b e) h.0) as (λ _. Next b e) [
       | inl t ↦ (
-          let ts = both (eqb e.row (length b.pointers)) (eqb (length b.diagonals) e.row) t in
+          let ts = both_true (eqb e.row (length b.pointers)) (eqb (length b.diagonals) e.row) t in
           let row : e.row ≡ length b.pointers = grind (arith, nat_tests) in
           let whole : length b.diagonals ≡ e.row = grind (arith, nat_tests) in
           elim side as (λ _. Next b e) [ inl le ↦ inl (row, omega arith, le) | inr lt ↦ absurd (omega arith) ])
       | inr t ↦ (
-          let ts = both (eqb (e.row + 1) (length b.pointers)) (ltb b.last e.column) t in
+          let ts = both_true (eqb (e.row + 1) (length b.pointers)) (ltb b.last e.column) t in
           let row : e.row + 1 ≡ length b.pointers = grind (arith, nat_tests) in
           let later : b.last < e.column = grind (arith, nat_tests) in
           inr (row, later, side))

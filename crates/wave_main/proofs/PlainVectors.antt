@@ -11,7 +11,7 @@ use Rattle.std.proofs.lemmas.Fmt.{decimal_nonempty}
 use Rattle.wave_main.specs.PlainReading.{◌>>=◌, text_at, close_at, number_at, integer_at, value_at, after_header, vector_size_at}
 use Rattle.wave_main.specs.PlainMatrixReading.{is_end, whole}
 use Rattle.wave_main.specs.PlainVectorReading.{values_at, vector_at}
-use Rattle.wave_main.specs.PlainText.{text_line, spaced, vector_text, IsWrittenAs, IsPlainVector}
+use Rattle.wave_main.specs.PlainText.{text_line, spaced, vector_text, IsWrittenAs, IsPlainVector, vector_header}
 use Rattle.wave_main.proofs.PlainLines.{some_is, bind_some, if_some, text_found, text_finds}
 use Rattle.wave_main.proofs.PlainNumbers.{number_found, number_finds, integer_found, integer_finds}
 use Rattle.wave_main.proofs.PlainTakes.{TakesLine, TakesLines, IsSome, takes_from_close, ends_from_takes, written_from_takes, takes_from_written}
@@ -45,9 +45,6 @@ whole_found {A = A} o x e =
     h.1 ∙ ap (λ (y : A × List ℕ). Some y) (pair_is h.0 x [] f.1 done)
 
 -- ---- the size line
-
-header : List ℕ
-header = codes "%%MatrixMarket matrix array integer general"
 
 abbrev size_text : ℕ → List ℕ
 size_text n = spaced (decimal n) (codes "1")
@@ -149,23 +146,23 @@ size_some : (n : ℕ) → IsSome (size_text n)
 size_some n = past_some (decimal n) 32 (codes "1")
 
 abbrev lines_of : List ℤ → List (List ℕ)
-lines_of values = codes "%%MatrixMarket matrix array integer general" ∷ size_text (length values) ∷ map signed_decimal values
+lines_of values = vector_header ∷ size_text (length values) ∷ map signed_decimal values
 
 text_of : (values : List ℤ) → flat_map text_line (lines_of values) ≡ vector_text values
-text_of values = ap (λ (x : List ℕ). text_line (codes "%%MatrixMarket matrix array integer general") ++ (text_line (size_text (length values)) ++ x)) (flat_map-map text_line signed_decimal values)
+text_of values = ap (λ (x : List ℕ). text_line vector_header ++ (text_line (size_text (length values)) ++ x)) (flat_map-map text_line signed_decimal values)
 
 lines_some : (values : List ℤ) → All Fits values → All IsSome (lines_of values)
 lines_some values fits =
     let rest = All-map IsSome signed_decimal values (All-weaker Fits (λ z. IsSome (signed_decimal z)) signed_some values fits) in
-    All-cons IsSome (codes "%%MatrixMarket matrix array integer general") (size_text (length values) ∷ map signed_decimal values) (omega arith) (All-cons IsSome (size_text (length values)) (map signed_decimal values) (size_some (length values)) rest)
+    All-cons IsSome vector_header (size_text (length values) ∷ map signed_decimal values) (omega arith) (All-cons IsSome (size_text (length values)) (map signed_decimal values) (size_some (length values)) rest)
 
 pub vector_found : (bytes : List ℕ) (values : List ℤ) → vector_at bytes ≡ Some values → IsPlainVector bytes values
 vector_found bytes values e =
     let h = bind_some (vector_size_at bytes) (λ (size : Size). whole (values_at size.0 [] size.1)) values e in
     let n = h.0.0 in
     let behind = h.0.1 in
-    let g = bind_some (after_header (codes "%%MatrixMarket matrix array integer general") bytes) size_line h.0 h.1 in
-    let first = header_found (codes "%%MatrixMarket matrix array integer general") bytes g.0 g.1 in
+    let g = bind_some (after_header vector_header bytes) size_line h.0 h.1 in
+    let first = header_found vector_header bytes g.0 g.1 in
     let second = size_line_found g.0 n behind g.2 in
     let read = values_found n [] behind values [] (whole_found (values_at n [] behind) values h.2) in
     let size : TakesLine (size_text (length read.values)) g.0 behind = subst (λ (x : ℕ). TakesLine (size_text x) g.0 behind) (sym read.count) second.0 in
@@ -175,8 +172,8 @@ vector_found bytes values e =
 
 pub vector_finds : (bytes : List ℕ) (values : List ℤ) → IsPlainVector bytes values → vector_at bytes ≡ Some values
 vector_finds bytes values p =
-    let takes = takes_from_written (codes "%%MatrixMarket matrix array integer general") (size_text (length values) ∷ map signed_decimal values) bytes (subst (IsWrittenAs bytes) (sym (text_of values)) p.written) in
-    let first = header_finds (codes "%%MatrixMarket matrix array integer general") bytes takes.0 takes.1 in
+    let takes = takes_from_written vector_header (size_text (length values) ∷ map signed_decimal values) bytes (subst (IsWrittenAs bytes) (sym (text_of values)) p.written) in
+    let first = header_finds vector_header bytes takes.0 takes.1 in
     let rest = takes.2 in
     let second = size_line_finds takes.0 (length values) rest.0 rest.1 p.few in
     let read = values_find values [] rest.0 [] rest.2 p.within in
@@ -189,3 +186,6 @@ answer_found bytes (Some values) e = vector_found bytes values (sym e)
 
 pub answer_only : (bytes : List ℕ) (o : Option (List ℤ)) → o ≡ vector_at bytes → (values : List ℤ) → IsPlainVector bytes values → o ≡ Some values
 answer_only bytes o e values p = e ∙ vector_finds bytes values p
+
+pub one_vector : (bytes : List ℕ) (vs ws : List ℤ) → IsPlainVector bytes vs → IsPlainVector bytes ws → vs ≡ ws
+one_vector bytes vs ws p q = some_is vs ws (sym (vector_finds bytes vs p) ∙ vector_finds bytes ws q)

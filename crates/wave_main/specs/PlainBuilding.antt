@@ -1,4 +1,5 @@
 -- The arrays of a matrix while its entries are taken one after the other.
+-- Only the inner functions of the readers cite this; what a whole file is stands in PlainText.
 use Rattle.std.specs.Prelude.{ℕ, ℤ, pos, ◌+◌, Bool, List, [], ◌∷◌, ◌++◌, length, if◌then◌else◌, ◌==◌, ◌&&◌, ◌||◌, nat_le, nat_lt}
 use Rattle.wave_main.specs.declared.plain.entry.PlainEntry.{PlainEntry}
 use Rattle.wave_main.specs.declared.plain.rows.PlainArrays.{PlainArrays}

@@ -1,4 +1,5 @@
 -- A matrix file read from the front.
+-- Only the inner functions of the readers cite this; what a whole file is stands in PlainText.
 use Rattle.std.specs.Prelude.{◌≡◌, ℕ, zero, suc, ◌+◌, Bool, true, false, List, [], ◌∷◌, if◌then◌else◌, Option, Some, None}
 use Rattle.wave_main.specs.declared.plain.rows.PlainArrays.{PlainArrays}
 use Rattle.wave_main.specs.PlainReading.{◌>>=◌, entry_at, matrix_size_at}

@@ -1,7 +1,9 @@
 -- The plain form read from the front, part by part: what was found, and the bytes after it.
+-- Only the inner functions of the readers cite this; what a whole file is stands in PlainText.
 use Rattle.std.specs.Prelude.{ℕ, ℤ, pos, negsuc, ◌+◌, ◌-◌, ◌*◌, ◌^◌, Bool, List, [], ◌∷◌, if◌then◌else◌, ◌==◌, ◌&&◌, nat_le, nat_lt, Option, Some, None, option_and_then, codes}
 use Rattle.wave_main.specs.declared.plain.entry.PlainEntry.{PlainEntry}
 use Rattle.wave_main.specs.declared.plain.sizes.MatrixSize.{MatrixSize}
+use Rattle.wave_main.specs.PlainText.{matrix_header, vector_header}
 
 infixl 10 ◌>>=◌
 abbrev pub ◌>>=◌ : {A B : Type 0} → Option A → (A → Option B) → Option B
@@ -69,8 +71,8 @@ after_header line bs = text_at line bs >>= close_at
 
 -- the first two lines of a matrix file
 abbrev pub matrix_size_at : List ℕ → Option (MatrixSize × List ℕ)
-matrix_size_at bs = after_header (codes "%%MatrixMarket matrix coordinate integer general") bs >>= λ s. number_at (2 ^ 20) s >>= λ n. byte_at 32 n.1 >>= λ s. columns_at n.0 s >>= λ s. byte_at 32 s >>= λ s. number_at (2 ^ 23) s >>= λ l. close_at l.1 >>= λ s. Some (record { rows = n.0; entries = l.0 }, s)
+matrix_size_at bs = after_header matrix_header bs >>= λ s. number_at (2 ^ 20) s >>= λ n. byte_at 32 n.1 >>= λ s. columns_at n.0 s >>= λ s. byte_at 32 s >>= λ s. number_at (2 ^ 23) s >>= λ l. close_at l.1 >>= λ s. Some (record { rows = n.0; entries = l.0 }, s)
 
 -- the first two lines of a vector file
 abbrev pub vector_size_at : List ℕ → Option (ℕ × List ℕ)
-vector_size_at bs = after_header (codes "%%MatrixMarket matrix array integer general") bs >>= λ s. number_at (2 ^ 24) s >>= λ n. text_at (codes " 1") n.1 >>= λ s. close_at s >>= λ s. Some (n.0, s)
+vector_size_at bs = after_header vector_header bs >>= λ s. number_at (2 ^ 24) s >>= λ n. text_at (codes " 1") n.1 >>= λ s. close_at s >>= λ s. Some (n.0, s)

@@ -5,6 +5,13 @@ use Rattle.std.specs.Fmt.{decimal, signed_decimal}
 use Rattle.std.specs.List.{flat_map, All, AllPairs, Any}
 use Rattle.wave_main.specs.declared.plain.entry.PlainEntry.{PlainEntry}
 
+-- the first lines of the two kinds of file
+abbrev pub matrix_header : List ℕ
+matrix_header = codes "%%MatrixMarket matrix coordinate integer general"
+
+abbrev pub vector_header : List ℕ
+vector_header = codes "%%MatrixMarket matrix array integer general"
+
 -- a line, with its line feed
 abbrev pub text_line : List ℕ → List ℕ
 text_line bytes = bytes ++ 10 ∷ []
@@ -23,13 +30,17 @@ abbrev pub entry_line : PlainEntry → List ℕ
 entry_line e = text_line (spaced (decimal (e.row + 1)) (spaced (decimal (e.column + 1)) (signed_decimal e.value)))
 
 abbrev pub matrix_text : PlainMatrix → List ℕ
-matrix_text m = text_line (codes "%%MatrixMarket matrix coordinate integer general") ++ (text_line (spaced (decimal m.rows) (spaced (decimal m.rows) (decimal (length m.entries)))) ++ flat_map entry_line m.entries)
+matrix_text m =
+    let size = spaced (decimal m.rows) (spaced (decimal m.rows) (decimal (length m.entries))) in
+    text_line matrix_header ++ (text_line size ++ flat_map entry_line m.entries)
 
 abbrev pub value_line : ℤ → List ℕ
 value_line value = text_line (signed_decimal value)
 
 abbrev pub vector_text : List ℤ → List ℕ
-vector_text values = text_line (codes "%%MatrixMarket matrix array integer general") ++ (text_line (spaced (decimal (length values)) (codes "1")) ++ flat_map value_line values)
+vector_text values =
+    let size = spaced (decimal (length values)) (codes "1") in
+    text_line vector_header ++ (text_line size ++ flat_map value_line values)
 
 -- the text, or the text without the line feed at its end
 abbrev pub IsWrittenAs : List ℕ → List ℕ → Type 0

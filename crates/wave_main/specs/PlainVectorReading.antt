@@ -1,4 +1,5 @@
 -- A vector file read from the front.
+-- Only the inner functions of the readers cite this; what a whole file is stands in PlainText.
 use Rattle.std.specs.Prelude.{ℕ, zero, suc, ℤ, List, [], ◌∷◌, ◌++◌, Option, Some}
 use Rattle.wave_main.specs.PlainReading.{◌>>=◌, value_at, vector_size_at}
 use Rattle.wave_main.specs.PlainMatrixReading.{whole}

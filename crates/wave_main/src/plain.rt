@@ -7,3 +7,11 @@ pub mod numbers;
 pub mod rows;
 pub mod sizes;
 pub mod vector;
+
+pub use forward::is_forward_loop;
+pub use matrix::read_plain_matrix;
+pub use rows::PlainArrays;
+pub use vector::read_plain_vector;
+
+#[cfg(test)]
+mod tests;

@@ -36,9 +36,9 @@ fn read_matrix(alloc: Global, bytes: &[u8]) -> Result<Option<PlainArrays>, Memor
     let Some((size, rest)) = matrix_size(bytes) else {
         return Ok(None);
     };
-    let most = rest.len() / 6 + 1;
-    let room = most.min(size.entries as usize);
-    let mut built = Rows::with_room(alloc, room.min(size.rows as usize), room)?;
+    // no more room than the text could fill, whatever its size line says
+    let room = (rest.len() / 6 + 1).min(size.entries as usize);
+    let mut built = Rows::with_room(alloc, room.min(size.rows as usize) + 1, room)?;
     if take_entries(size.rows, size.entries, &mut built, rest)? && built.is_whole(size.rows) {
         Ok(Some(built.finish(size.rows, size.entries)?))
     } else {
@@ -53,6 +53,7 @@ fn read_matrix(alloc: Global, bytes: &[u8]) -> Result<Option<PlainArrays>, Memor
 pub fn read_plain_matrix(alloc: Global, bytes: &[u8]) -> Result<Option<PlainArrays>, Memory>
     ensures found { IfOk result (λ found. IfSome found (λ a. (m : PlainMatrix) × IsPlainMatrix bytes.now m × (a ≡ arrays_of m))) }
     ensures only { IfOk result (λ found. (m : PlainMatrix) → IsPlainMatrix bytes.now m → found ≡ Some (arrays_of m)) }
+    ensures one { (k l : PlainMatrix) → IsPlainMatrix bytes.now k → IsPlainMatrix bytes.now l → k ≡ l }
 {
     read_matrix(alloc, bytes)
 }

@@ -23,7 +23,7 @@ pub struct PlainArrays {
 }
 
 /// The arrays of the entries that were read so far, and the column of the last of them.
-#[derive(Debug, Drop)]
+#[derive(Drop)]
 pub struct Rows {
     pointers: Vec<i64>,
     columns: Vec<i64>,

@@ -50,6 +50,7 @@ fn read_vector(alloc: Global, bytes: &[u8]) -> Result<Option<Words>, Memory>
     let Some((length, rest)) = vector_size(bytes) else {
         return Ok(None);
     };
+    // no more room than the text could fill, whatever its size line says
     let room = (rest.len() / 2 + 1).min(length as usize);
     let mut values = Vec::with_capacity(alloc, room)?;
     if take_values(length, &mut values, rest)? {
@@ -64,6 +65,7 @@ fn read_vector(alloc: Global, bytes: &[u8]) -> Result<Option<Words>, Memory>
 pub fn read_plain_vector(alloc: Global, bytes: &[u8]) -> Result<Option<Words>, Memory>
     ensures found { IfOk result (λ found. IfSome found (λ values. IsPlainVector bytes.now values)) }
     ensures only { IfOk result (λ found. (values : List ℤ) → IsPlainVector bytes.now values → found ≡ Some values) }
+    ensures one { (v w : List ℤ) → IsPlainVector bytes.now v → IsPlainVector bytes.now w → v ≡ w }
 {
     read_vector(alloc, bytes)
 }
