@@ -1,8 +1,8 @@
 // A library in memory, which fails when it is told to.
-ghost use Rattle.std.specs.Prelude.{◌≡◌, ◌-◌, ◌<◌, ◌≤◌, ◌↔◌, ℕ, List, [], length, min, IsErr, IsSome, IfOk, IfSome, OnOk, OnErr, map};
+ghost use Rattle.std.specs.Prelude.{◌≡◌, ◌-◌, ◌≤◌, ◌↔◌, ℕ, List, [], length, min, IsErr, IsSome, IfOk, IfSome, OnOk, OnErr, map};
 ghost use Rattle.std.specs.Option.{option_copied};
 ghost use Rattle.wave_io.specs.Files.{StandsAt};
-ghost use Rattle.wave_io.specs.Shelf.{Shelf, named, bytes_of, faults_at, Misses, after_fetch, after_miss};
+ghost use Rattle.wave_io.specs.Shelf.{named, bytes_of, faults_at, Misses, after_fetch, after_miss};
 
 use crate::failed::Failed;
 use crate::library::Library;

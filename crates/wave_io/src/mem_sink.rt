@@ -1,6 +1,6 @@
 // A sink in memory, which fails when it is told to.
-ghost use Rattle.std.specs.Prelude.{◌≡◌, ◌<◌, ◌≤◌, ◌↔◌, [], length, take, IsErr, IfOk, OnErr};
-ghost use Rattle.wave_io.specs.Tape.{Tape, Refuses, taken, after_put, after_fault};
+ghost use Rattle.std.specs.Prelude.{◌≡◌, ◌<◌, ◌≤◌, ◌↔◌, [], length, IsErr, IfOk, OnErr};
+ghost use Rattle.wave_io.specs.Tape.{Refuses, taken, after_put, after_fault};
 
 use crate::failed::Failed;
 use crate::sink::Sink;

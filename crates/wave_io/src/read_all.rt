@@ -1,5 +1,5 @@
 // A whole file out of a library.
-ghost use Rattle.std.specs.Prelude.{◌≡◌, ◌+◌, ◌^◌, ◌<◌, ◌≤◌, ℕ, List, Err, IfOk, IfSome, OnErr, IsErrOf, vec_len, length, min, take, drop, ◌++◌};
+ghost use Rattle.std.specs.Prelude.{◌≡◌, ◌+◌, ◌^◌, ◌<◌, ◌≤◌, ℕ, List, IfOk, IfSome, OnErr, IsErrOf, vec_len, length, min};
 ghost use Rattle.wave_io.specs.Faults.{Rose};
 ghost use Rattle.wave_io.specs.Files.{EndsExactly, Begin};
 
