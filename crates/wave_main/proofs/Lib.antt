@@ -13,3 +13,5 @@ pub mod PlainMatrices
 pub mod JudgeLaws
 pub mod EndLaws
 pub mod ReportLaws
+pub mod AnswerLaws
+pub mod AnswerOf

@@ -1,5 +1,5 @@
 -- Texts put one after the other.
-use Rattle.std.proofs.Common.{ℕ, ◌≡◌, ◌+◌, ◌≤◌, ◌^◌, ◌-◌, List, ◌++◌, Option, Some, None, min, refl, sym, ◌∙◌, ap, append_assoc, arith}
+use Rattle.std.proofs.Common.{ℕ, [], append-nil, ◌≡◌, ◌+◌, ◌≤◌, ◌^◌, ◌-◌, List, ◌++◌, Option, Some, None, min, refl, sym, ◌∙◌, ap, append_assoc, arith}
 use Rattle.wave_io.specs.Faults.{Rose}
 use Rattle.wave_io.specs.Written.{grown, TookPart}
 
@@ -28,3 +28,7 @@ cut_second old mid new a b first took = record {
 
 pub rose_later : (old mid new : ℕ) → old ≤ mid → Rose mid new → Rose old new
 rose_later old mid new before rose = omega (arith, before, rose)
+
+pub grown_nothing : (old : Option (List ℕ)) → old ≡ grown old []
+grown_nothing None = refl
+grown_nothing (Some bytes) = ap Some (sym (append-nil bytes))

@@ -160,3 +160,7 @@ too_short_texts xs w first right gone =
 
 pub one_file : (xs : List (String Global)) → length (texts xs) ≡ length xs
 one_file xs = length-texts xs
+
+pub not_run : (ws : List (List ℕ)) → (slice_get ws 0 ≡ Some (codes "run") → ⊥) → IsUsageAt IsRun ws 0
+not_run [] other = empty_usage
+not_run (a ∷ rest) other = other_usage a rest (λ same. other (ap Some same))

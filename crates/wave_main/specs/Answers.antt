@@ -37,28 +37,6 @@ Refuses words files status =
     ⊎ (¬ NamesUnbuilt words × RefusesWords words status)
     ⊎ (IsBuiltRun words × RefusesFiles files status)
 
--- with bytes that the files may have: each refusal comes exactly where words and files call for it, and what was put is the text of the run
-pub record Answers (call : Call) : Type 0 where
-  pub files : RunFiles
-  pub of_names : AreFilesOf call.held call.words files
-  pub refused : IsSettled call.status → (why : Status) → IsRefusal why → (call.status ≡ why) ↔ Refuses call.words files why
-  pub done : call.status ≡ Done →
-      IsBuiltRun call.words × ((input : Input) × IsInput files input × (call.changes.after ≡ grown call.changes.before (run_text input)))
-  pub cut : call.status ≡ WriteFault →
-      IsBuiltRun call.words × ((input : Input) × IsInput files input × TookPart call.changes.before call.changes.after (run_text input))
-
--- a fault of reading comes only where the count at the name of a file of the command rose
-abbrev pub ReadFaultHasCause : Call → Type 0
-ReadFaultHasCause call = (word : ℕ) → call.status ≡ ReadFault word → IsReadFault call.words call.changes word
-
--- a fault of writing comes only where the count of faults of standard output rose
-abbrev pub WriteFaultHasCause : Call → Type 0
-WriteFaultHasCause call = call.status ≡ WriteFault → Rose call.changes.faults_before call.changes.faults_after
-
--- nothing is put before the text is whole, and nothing after a refusal
-abbrev pub KeepsOutput : Call → Type 0
-KeepsOutput call = call.status ≢ Done → call.status ≢ WriteFault → call.changes.after ≡ call.changes.before
-
 -- files that are told
 pub record AreTold (held : List ℕ → Option (List ℕ)) (words : List (List ℕ)) (files : RunFiles) : Type 0 where
   pub loop_file : held (word_of words 1) ≡ Some files.loop_file
@@ -70,17 +48,31 @@ pub record HasNoFault (call : Call) : Type 0 where
   pub writes : ¬ Rose call.changes.faults_before call.changes.faults_after
   pub reads : (word : ℕ) → ¬ IsReadFault call.words call.changes word
 
--- good words, told files that are an input, and no fault: the answer is Done or Memory
-abbrev pub IsComplete : Call → Type 0
-IsComplete call =
-    IsBuiltRun call.words → (files : RunFiles) → AreTold call.held call.words files → (input : Input) → IsInput files input
-    → HasNoFault call → (call.status ≡ Done) ⊎ (call.status ≡ Memory)
+-- what the text of the run made of what was put before
+abbrev pub printed : Call → Input → Option (List ℕ)
+printed call input = grown call.changes.before (run_text input)
 
--- told files: what was put after Done is the text of their one input
-abbrev pub PrintsItsInput : Call → Type 0
-PrintsItsInput call =
-    call.status ≡ Done → (files : RunFiles) → AreTold call.held call.words files → (input : Input) → IsInput files input
-    → call.changes.after ≡ grown call.changes.before (run_text input)
+-- The answer of the program's call.
+pub record IsAnswer (call : Call) : Type 0 where
+  -- bytes that the files may have: those that are told, and some where none are told
+  pub files : RunFiles
+  pub of_names : AreFilesOf call.held call.words files
+  -- each refusal comes exactly where words and files call for it
+  pub refused : IsSettled call.status → (why : Status) → IsRefusal why → (call.status ≡ why) ↔ Refuses call.words files why
+  -- after Done the text of the run was put
+  pub done : call.status ≡ Done → IsBuiltRun call.words × ((input : Input) × IsInput files input × (call.changes.after ≡ printed call input))
+  -- after a fault of writing, whose count rose, a first part of the text was put
+  pub cut : call.status ≡ WriteFault → IsBuiltRun call.words × ((input : Input) × IsInput files input × TookPart call.changes.before call.changes.after (run_text input))
+  pub write_fault : call.status ≡ WriteFault → Rose call.changes.faults_before call.changes.faults_after
+  -- a fault of reading names a file of the command at whose name the count rose
+  pub read_fault : (word : ℕ) → call.status ≡ ReadFault word → IsReadFault call.words call.changes word
+  -- nothing is put otherwise
+  pub keeps : call.status ≢ Done → call.status ≢ WriteFault → call.changes.after ≡ call.changes.before
+  -- good words, told files that are an input, no fault: the answer is Done or Memory
+  pub complete : IsBuiltRun call.words → (told : RunFiles) → AreTold call.held call.words told → (input : Input) → IsInput told input → HasNoFault call
+      → (call.status ≡ Done) ⊎ (call.status ≡ Memory)
+  -- told files: after Done the text of their one input was put
+  pub prints : call.status ≡ Done → (told : RunFiles) → AreTold call.held call.words told → (input : Input) → IsInput told input → call.changes.after ≡ printed call input
 
 -- what standard error took: the fault line, or a first part of it where its count of faults rose
 abbrev pub SaysWhy : Status → Option (List ℕ) → Option (List ℕ) → ℕ → ℕ → Type 0

@@ -34,13 +34,14 @@ fn put_word<E: Sink>(err: &mut E, label: &[u8], word: u32) -> Result<(), Failed>
     put_all(err, b"\n")
 }
 
+#[tactic(auto, using(crate::proofs::ReportLaws::grown_nothing))]
 fn put_fault<E: Sink>(err: &mut E, status: Status) -> Result<(), Failed>
     ensures whole { OnOk result (E.written err.new ≡ grown (E.written err.old) (fault_line status)) }
     ensures part { OnErr result (TookPart (E.written err.old) (E.written err.new) (fault_line status)) }
     ensures failed { OnErr result (Rose (E.faults err.old) (E.faults err.new)) }
 {
     match status {
-        Status::Done => put_all(err, b""),
+        Status::Done => Ok(()),
         Status::Usage { word } => put_word(err, b"usage word ", word),
         Status::ReadFault { word } => put_word(err, b"read word ", word),
         Status::NotBuilt { word } => put_word(err, b"not built word ", word),
@@ -51,8 +52,13 @@ fn put_fault<E: Sink>(err: &mut E, status: Status) -> Result<(), Failed>
 
 /// Says in one line why a call ended, and nothing after `Done`. It takes no memory. That the
 /// stream fails changes nothing.
+#[tactic(auto, using(crate::proofs::ReportLaws::grown_nothing))]
 pub fn report<E: Sink>(err: &mut E, status: Status)
     ensures says { SaysWhy status (E.written err.old) (E.written err.new) (E.faults err.old) (E.faults err.new) }
+    ensures silent { status ≡ Status.Done → E.written err.new ≡ E.written err.old }
 {
+    if status == Status::Done {
+        return;
+    }
     let _ = put_fault(err, status);
 }

@@ -1,5 +1,7 @@
 // The top calls.
-ghost use Rattle.std.specs.Prelude.{◌<◌, ◌^◌, ◌≡◌, length};
+ghost use Rattle.std.specs.Prelude.{◌<◌, ◌^◌, ◌≡◌, ◌↔◌, ◌⊎◌, length, IsTrue};
+ghost use Rattle.wave_main.specs.Answers.{IsAnswer, SaysWhy};
+ghost use Rattle.wave_main.specs.Commands.{Begins, NamesQuiet};
 ghost use Rattle.wave_main.specs.Run.{RunFiles, AreFilesOf, RunEnds, status_of};
 ghost use Rattle.wave_main.specs.Words.{texts};
 
@@ -19,14 +21,25 @@ use wave_io::put_all::put_all;
 use wave_io::sink::Sink;
 
 /// Whether the first word is a command that isn't built and that `quiet_main` serves.
-fn is_quiet_command(words: &[String]) -> bool {
+fn is_quiet_command(words: &[String]) -> bool
+    ensures { IsTrue result ↔ NamesQuiet (texts words.now) }
+{
+    let Some(first) = word_at(words, 0) else {
+        return false;
+    };
+    first == "plan"
+        || first == "replay"
+        || first == "check"
+        || first == "explain"
+        || first == "show"
+}
+
+fn is_first_word(words: &[String], wanted: &str) -> bool
+    ensures { IsTrue result ↔ Begins (texts words.now) wanted.now }
+{
     match word_at(words, 0) {
-        Some("plan") => true,
-        Some("replay") => true,
-        Some("check") => true,
-        Some("explain") => true,
-        Some("show") => true,
-        _ => false,
+        Some(first) => first == wanted,
+        None => false,
     }
 }
 
@@ -69,14 +82,22 @@ fn ended(outcome: Result<(), Status>) -> Status
 }
 
 /// Serves every command but `run` and `demo`. None of them is built yet: the commands have the
-/// status `NotBuilt` with word 0, and all other words `Usage` with word 0. It always returns.
+/// status `NotBuilt` with word 0, and all other words `Usage` with word 0. It reads and puts nothing
+/// but the fault line, and always returns.
 pub fn quiet_main<R: Threads, L: Library, O: Sink, E: Sink>(
     _rt: &R,
     words: &[String],
-    _lib: &mut L,
-    _out: &mut O,
+    lib: &mut L,
+    out: &mut O,
     err: &mut E,
-) -> Status {
+) -> Status
+    ensures unbuilt { (result ≡ Status.NotBuilt 0) ↔ NamesQuiet (texts words.now) }
+    ensures usage { (result ≡ Status.Usage 0) ↔ (¬ NamesQuiet (texts words.now)) }
+    ensures refused { (result ≡ Status.NotBuilt 0) ⊎ (result ≡ Status.Usage 0) }
+    ensures reads_nothing { lib.new ≡ lib.old }
+    ensures puts_nothing { out.new ≡ out.old }
+    ensures says { SaysWhy result (E.written err.old) (E.written err.new) (E.faults err.old) (E.faults err.new) }
+{
     let status = if is_quiet_command(words) {
         Status::NotBuilt { word: 0 }
     } else {
@@ -86,8 +107,8 @@ pub fn quiet_main<R: Threads, L: Library, O: Sink, E: Sink>(
     status
 }
 
-/// Does all that the program does: it serves `run` and `demo` itself and hands all other words to
-/// `quiet_main`.
+/// Does all that the program does, but for the real files and streams: it serves `run` and `demo`
+/// itself and hands all other words to `quiet_main`.
 pub fn wave_main<R: AllocGlobal + Threads + Wait, L: Library, O: Sink, E: Sink, G: Gate + Sync>(
     rt: &R,
     words: &[String],
@@ -97,17 +118,30 @@ pub fn wave_main<R: AllocGlobal + Threads + Wait, L: Library, O: Sink, E: Sink, 
     _gate: &G,
 ) -> Status
     requires { length words.now < 2 ^ 32 }
+    ensures answer { IsAnswer (record {
+      words = texts words.now;
+      held = L.held lib.old;
+      changes = record {
+        reads_before = L.faults lib.old;
+        reads_after = L.faults lib.new;
+        before = O.written out.old;
+        after = O.written out.new;
+        faults_before = O.faults out.old;
+        faults_after = O.faults out.new;
+      };
+      status = result;
+    }) }
+    ensures says { SaysWhy result (E.written err.old) (E.written err.new) (E.faults err.old) (E.faults err.new) }
+    ensures silent { result ≡ Status.Done → E.written err.new ≡ E.written err.old }
 {
-    match word_at(words, 0) {
-        Some("run") => {
-            let status = ended(try_run(rt.alloc(), words, lib, out));
-            report(err, status);
-            status
-        }
-        Some("demo") => {
-            report(err, Status::NotBuilt { word: 0 });
-            Status::NotBuilt { word: 0 }
-        }
-        _ => quiet_main(rt, words, lib, out, err),
+    if is_first_word(words, "run") {
+        let status = ended(try_run(rt.alloc(), words, lib, out));
+        report(err, status);
+        return status;
     }
+    if is_first_word(words, "demo") {
+        report(err, Status::NotBuilt { word: 0 });
+        return Status::NotBuilt { word: 0 };
+    }
+    quiet_main(rt, words, lib, out, err)
 }
