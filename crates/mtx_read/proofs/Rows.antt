@@ -71,7 +71,7 @@ next_is : (all : List (ℕ × Words)) (have line : ℕ) (rest after : List ℕ) 
 next_is all have line rest after lt e s h = h ∙ kept_first line rest lt ∙ rw (s, e) refl
 
 -- items of a list in two parts
-bind_ok : {A B : Type 0} (r : Result A MtxRefusal) (f : A → Result B MtxRefusal) (y : B) → (r >>= f) ≡ Ok y → (x : A) × (r ≡ Ok x) × (f x ≡ Ok y)
+pub bind_ok : {A B : Type 0} (r : Result A MtxRefusal) (f : A → Result B MtxRefusal) (y : B) → (r >>= f) ≡ Ok y → (x : A) × (r ≡ Ok x) × (f x ≡ Ok y)
 bind_ok (Ok x) f y e = (x, refl, e)
 bind_ok (Err d) f y e = absurd cc
 

@@ -1,8 +1,8 @@
 // The size line.
-ghost use Rattle.std.specs.Prelude.{◌≡◌};
+ghost use Rattle.std.specs.Prelude.{◌≡◌, ◌≤◌, ◌^◌, true, IfOk};
 ghost use Rattle.text_base.specs.Lines.{trimmed};
 ghost use Rattle.text_base.specs.Words.{words};
-ghost use Rattle.mtx_read.specs.Size.{size_number, sized, matrix_size, tall, vector_size};
+ghost use Rattle.mtx_read.specs.Size.{size_number, is_square, sized, matrix_size, tall, vector_size};
 
 use crate::header::{Field, Format, Symmetry};
 use crate::refusal::{BigKind, MtxRefusal};
@@ -38,7 +38,9 @@ fn sized(
     columns: Option<u64>,
     stored: Option<u64>,
 ) -> Result<Shape, MtxRefusal>
-    ensures { result ≡ sized format.now line rows columns stored }
+    ensures gives { result ≡ sized format.now line rows columns stored }
+    ensures few { IfOk result (λ s. s.stored ≤ 2 ^ 23) }
+    ensures square { IfOk result (λ s. is_square s.symmetry s.rows s.columns ≡ true) }
 {
     let (Some(rows), Some(columns), Some(stored)) = (rows, columns, stored) else {
         return Err(MtxRefusal::Size { line });
@@ -75,7 +77,9 @@ fn sized(
 
 /// The shape that the size line of a matrix file gives. `at` is the line's number.
 pub fn matrix_size(format: &Format, at: u32, line: &[u8]) -> Result<Shape, MtxRefusal>
-    ensures { result ≡ matrix_size format.now at (words (trimmed line.now)) }
+    ensures gives { result ≡ matrix_size format.now at (words (trimmed line.now)) }
+    ensures few { IfOk result (λ s. s.stored ≤ 2 ^ 23) }
+    ensures square { IfOk result (λ s. is_square s.symmetry s.rows s.columns ≡ true) }
 {
     let Some((rows, rest)) = next_word(trim_line(line)) else {
         return Err(MtxRefusal::Size { line: at });
