@@ -1,0 +1,4 @@
+pub mod Arrays
+pub mod Axes
+pub mod Order
+pub mod Rows

@@ -1,0 +1,4 @@
+pub mod Rows
+pub mod Clamps
+pub mod Whole
+pub mod Places

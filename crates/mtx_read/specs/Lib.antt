@@ -1,0 +1,5 @@
+pub mod Reading
+pub mod Entry
+pub mod Header
+pub mod Size
+pub mod Files
