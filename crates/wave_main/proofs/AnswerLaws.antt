@@ -1,14 +1,12 @@
 -- At most one refusal stands, and none beside an input.
-use Rattle.std.proofs.Common.{ℕ, ℤ, ◌≡◌, ◌≢◌, ◌⊎◌, inl, inr, ◌≤◌, List, [], ◌∷◌, Option, Some, None, slice_get, length, refl, sym, ◌∙◌, ap, subst, arith}
+use Rattle.std.proofs.Common.{ℕ, ◌≡◌, inl, inr, ◌≤◌, List, slice_get, sym, ◌∙◌, ap, arith}
 use Rattle.std.specs.Prelude.{codes}
-use Rattle.wave_io.specs.Faults.{Rose}
-use Rattle.wave_io.specs.Written.{grown, TookPart}
 use Rattle.wave_main.specs.declared.input.Input.{Input}
 use Rattle.wave_main.specs.declared.status.Status.{Status}
 use Rattle.wave_main.specs.declared.status.Status.TheVariants.{Done, Usage, ReadFault, NotBuilt, WriteFault, Memory}
-use Rattle.wave_main.specs.Answers.{IsRefusal, IsSettled, Refuses}
-use Rattle.wave_main.specs.Commands.{Begins, NamesQuiet, NamesUnbuilt}
-use Rattle.wave_main.specs.Run.{RunFiles, IsBuiltRun, IsInput, RefusesWords, RefusesFiles, HasOneWorker, HasOneFile}
+use Rattle.wave_main.specs.Answers.{Refuses}
+use Rattle.wave_main.specs.Commands.{Begins, NamesUnbuilt}
+use Rattle.wave_main.specs.Run.{RunFiles, IsBuiltRun, IsInput, RefusesWords, RefusesFiles}
 use Rattle.wave_main.specs.Words.{IsRun, IsUsageAt}
 
 begins_run : (ws : List (List ℕ)) → IsRun ws → Begins ws (codes "run")

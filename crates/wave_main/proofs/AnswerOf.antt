@@ -1,16 +1,13 @@
 -- From how a run ends to what its answer says.
-use Rattle.std.proofs.Common.{ℕ, ℤ, ◌≡◌, ◌≢◌, ◌⊎◌, inl, inr, ◌≤◌, List, [], ◌∷◌, Option, Some, None, slice_get, length, refl, sym, ◌∙◌, ap, subst}
+use Rattle.std.proofs.Common.{ℕ, ◌≡◌, ◌≢◌, ◌⊎◌, inl, inr, List, Option, Some, None, slice_get, refl, sym, ◌∙◌, ap, subst}
 use Rattle.std.specs.Prelude.{codes, ◌↔◌}
-use Rattle.wave_io.specs.Faults.{Rose}
-use Rattle.wave_io.specs.Written.{grown, TookPart}
 use Rattle.wave_main.specs.declared.input.Input.{Input}
 use Rattle.wave_main.specs.declared.status.Status.{Status}
 use Rattle.wave_main.specs.declared.status.Status.TheVariants.{Done, Usage, ReadFault, NotBuilt, WriteFault, Memory}
 use Rattle.wave_main.specs.Answers.{Call, IsRefusal, IsSettled, Refuses, AreTold, HasNoFault, IsAnswer, printed}
 use Rattle.wave_main.specs.Commands.{Begins, NamesUnbuilt}
 use Rattle.wave_main.specs.Files.{MayBe}
-use Rattle.wave_main.specs.PlainText.{PlainMatrix}
-use Rattle.wave_main.specs.Run.{RunFiles, AreFilesOf, Changes, IsBuiltRun, IsInput, IsBuiltMatrix, IsBuiltVector, RunEnds, RefusesWords, RefusesFiles, forward_input, word_of, run_text}
+use Rattle.wave_main.specs.Run.{RunFiles, AreFilesOf, Changes, IsBuiltRun, IsInput, RunEnds, forward_input}
 use Rattle.wave_main.specs.Words.{IsRun, IsUsageAt}
 use Rattle.wave_main.proofs.AnswerLaws.{run_is_built, one_refusal, no_refusal, built_words}
 use Rattle.wave_main.proofs.EndLaws.{some_files}

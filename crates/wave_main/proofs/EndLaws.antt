@@ -3,7 +3,6 @@ use Rattle.std.proofs.Common.{ℕ, ℤ, ◌≡◌, ◌⊎◌, inl, inr, List, []
 use Rattle.std.specs.Prelude.{Result, Ok, Err, IsErrAnd}
 use Rattle.loop_core.specs.UnitForward.{unit_forward}
 use Rattle.wave_io.specs.Faults.{Rose}
-use Rattle.wave_io.specs.Written.{grown, TookPart}
 use Rattle.loop_core.specs.Sequence.{sequential}
 use Rattle.wave_main.specs.declared.input.Input.{Input}
 use Rattle.wave_main.specs.declared.status.Status.{Status}

@@ -1,5 +1,5 @@
 -- The nest of unit forward substitution is small.
-use Rattle.std.proofs.Common.{ℕ, ◌≡◌, ◌≤◌, length, sym, subst, arith, rules}
+use Rattle.std.proofs.Common.{◌≡◌, ◌≤◌, length, sym, subst, arith, rules}
 use Rattle.loop_core.specs.declared.nest.Nest.{Nest}
 use Rattle.loop_core.specs.declared.nest.Item as ITEM
 use Rattle.loop_core.specs.Depth.{body_depth}

@@ -1,14 +1,13 @@
 -- The files of a run, judged.
-use Rattle.std.proofs.Common.{ℕ, ℤ, pos, ◌≡◌, ◌<◌, ◌≤◌, ◌^◌, ◌⊎◌, inl, inr, List, Option, Some, None, length, map, refl, sym, ◌∙◌, ap, subst, arith, Bool, true, false}
-use Rattle.std.specs.Prelude.{IsTrue, IfSome}
+use Rattle.std.proofs.Common.{ℕ, ℤ, pos, ◌≡◌, ◌<◌, ◌≤◌, ◌^◌, inl, inr, List, Option, Some, None, length, refl, sym, ◌∙◌, ap, subst, arith}
+use Rattle.std.specs.Prelude.{IfSome}
 use Rattle.std.proofs.lemmas.List.{length-map}
 use Rattle.wave_main.specs.declared.input.Input.{Input}
 use Rattle.wave_main.specs.declared.plain.rows.PlainArrays.{PlainArrays}
-use Rattle.wave_main.specs.declared.status.Status.{Status}
-use Rattle.wave_main.specs.declared.status.Status.TheVariants.{NotBuilt, Memory}
+use Rattle.wave_main.specs.declared.status.Status.TheVariants.{NotBuilt}
 use Rattle.wave_main.specs.PlainArraysOf.{arrays_of, columns}
 use Rattle.wave_main.specs.PlainText.{PlainMatrix, IsPlainMatrix, IsPlainVector}
-use Rattle.wave_main.specs.Run.{RunFiles, IsBuiltLoop, IsBuiltMatrix, IsBuiltVector, IsInput, RefusesFiles, forward_input}
+use Rattle.wave_main.specs.Run.{RunFiles, IsBuiltLoop, IsBuiltMatrix, IsInput, RefusesFiles, forward_input}
 
 -- what the reader says of a matrix file
 abbrev pub MatrixFound : List ℕ → Option PlainArrays → Type 0

@@ -1,5 +1,5 @@
 -- Texts put one after the other.
-use Rattle.std.proofs.Common.{ℕ, [], append-nil, ◌≡◌, ◌+◌, ◌≤◌, ◌^◌, ◌-◌, List, ◌++◌, Option, Some, None, min, refl, sym, ◌∙◌, ap, append_assoc, arith}
+use Rattle.std.proofs.Common.{ℕ, [], append-nil, ◌≡◌, ◌≤◌, List, ◌++◌, Option, Some, None, refl, sym, ◌∙◌, ap, append_assoc, arith}
 use Rattle.wave_io.specs.Faults.{Rose}
 use Rattle.wave_io.specs.Written.{grown, TookPart}
 

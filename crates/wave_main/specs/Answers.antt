@@ -1,11 +1,11 @@
 -- What the answers of the top calls say.
-use Rattle.std.specs.Prelude.{◌≡◌, ◌≢◌, ◌⊎◌, ◌↔◌, ℕ, List, Option, Some, ◌++◌}
+use Rattle.std.specs.Prelude.{◌≡◌, ◌≢◌, ◌⊎◌, ◌↔◌, ℕ, List, Option, Some}
 use Rattle.wave_io.specs.Faults.{Rose}
 use Rattle.wave_io.specs.Written.{grown, TookPart}
 use Rattle.wave_main.specs.declared.input.Input.{Input}
 use Rattle.wave_main.specs.declared.status.Status.{Status}
 use Rattle.wave_main.specs.declared.status.Status.TheVariants.{Done, Usage, ReadFault, NotBuilt, WriteFault, Memory}
-use Rattle.wave_main.specs.Commands.{NamesQuiet, NamesUnbuilt}
+use Rattle.wave_main.specs.Commands.{NamesUnbuilt}
 use Rattle.wave_main.specs.Run.{RunFiles, AreFilesOf, IsInput, IsBuiltRun, IsReadFault, RefusesWords, RefusesFiles, Changes, word_of, run_text}
 use Rattle.wave_main.specs.Status.{fault_line}
 

@@ -1,5 +1,5 @@
 -- The words of the commands.
-use Rattle.std.specs.Prelude.{◌≡◌, ℕ, ◌≤◌, ◌<◌, List, [], ◌∷◌, ◌++◌, length, take, codes, decimal, map, string_bytes, String}
+use Rattle.std.specs.Prelude.{◌≡◌, ℕ, ◌≤◌, List, ◌∷◌, ◌++◌, length, take, codes, decimal, map, string_bytes, String}
 use Rattle.std.specs.declared.alloc.Global.{Global}
 
 -- the texts of words

@@ -8,6 +8,8 @@ pub mod judge;
 pub mod plain;
 pub mod report;
 pub mod status;
+#[cfg(test)]
+mod tests;
 pub mod text;
 pub mod top;
 pub mod words;

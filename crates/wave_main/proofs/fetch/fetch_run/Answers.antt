@@ -1,4 +1,4 @@
-use Rattle.std.proofs.Common.{◌≡◌, ◌∙◌, sym}
+use Rattle.std.proofs.Common.{◌∙◌}
 use Rattle.wave_main.proofs.FileLaws.{of_same_file, three_files}
 use Rattle.wave_main.proofs.fetch.fetch_run.Goals as goal
 

@@ -1,4 +1,4 @@
-use Rattle.std.proofs.Common.{ℕ, ℤ, ◌≡◌, ◌<◌, ◌≤◌, ◌^◌, ◌⊎◌, inl, inr, List, Option, Some, None, length, refl, sym, ◌∙◌, ap, subst, Bool, true, false}
+use Rattle.std.proofs.Common.{◌<◌, ◌≤◌, ◌^◌, inr, Option, length, refl, sym, ◌∙◌, subst}
 use Rattle.std.specs.Prelude.{IfSome}
 use Rattle.wave_main.specs.PlainText.{IsPlainVector}
 use Rattle.wave_main.proofs.JudgeLaws.{MatrixFound, MatrixOnly, no_loop, no_matrix, input_found, same_vector, no_vector}

@@ -1,6 +1,6 @@
-use Rattle.std.proofs.Common.{ℕ, ◌≡◌, ◌∙◌, List, sym, refl, ap, subst}
+use Rattle.std.proofs.Common.{◌∙◌, refl, ap, subst}
 use Rattle.wave_io.specs.Written.{grown, TookPart}
-use Rattle.wave_main.specs.Run.{Changes, run_text}
+use Rattle.wave_main.specs.Run.{Changes}
 use Rattle.wave_main.specs.Words.{texts}
 use Rattle.wave_main.proofs.EndLaws.{some_files, named_files, words_end, fetch_end, judge_end, text_is, handed_on, ends_with, input_nest}
 use Rattle.wave_main.proofs.ForwardLaws.{is_shallow, has_few_arrays}

@@ -1,7 +1,7 @@
-use Rattle.std.proofs.Common.{ℕ, ◌≡◌, ◌∙◌, ◌⊎◌, inl, inr, true, false, List, refl, sym, ap, subst}
+use Rattle.std.proofs.Common.{inl, inr, refl, sym, ap, subst}
 use Rattle.wave_main.specs.declared.status.Status.{Status}
 use Rattle.wave_main.specs.Answers.{Call}
-use Rattle.wave_main.specs.Run.{Changes, RunFiles, RunEnds}
+use Rattle.wave_main.specs.Run.{Changes, RunEnds}
 use Rattle.wave_main.specs.Words.{texts}
 use Rattle.wave_main.proofs.AnswerOf.{run_answer, unbuilt_answer, usage_answer}
 use Rattle.wave_main.proofs.WordLaws.{not_run}
@@ -31,11 +31,11 @@ pub returns-clause-answer : goal.returns-clause-answer
 returns-clause-answer g c =
     let same = ap g.O.Sink.written c.quiet_main.ensures.puts_nothing in
     elim c.quiet_main.ensures.refused [
-      inl is ↦ unbuilt_answer _ (inr (c.quiet_main.ensures.unbuilt.0 is)) is same
-    | inr is ↦ usage_answer _
-        (λ named. elim named [
-          inl demo ↦ let e = c.is_first_word-2.ensures.1 demo in let f = c.if-is_first_word-2.false in cc
-        | inr quiet ↦ c.quiet_main.ensures.usage.0 is quiet
-        ])
-        (not_run (texts c.args.words.now) (λ run. let e = c.is_first_word.ensures.1 run in let f = c.if-is_first_word.false in cc)) is same
+      | inl is ↦ unbuilt_answer _ (inr (c.quiet_main.ensures.unbuilt.0 is)) is same
+      | inr is ↦ usage_answer _
+          (λ named. elim named [
+            | inl demo ↦ let e = c.is_first_word-2.ensures.1 demo in let f = c.if-is_first_word-2.false in cc
+            | inr quiet ↦ c.quiet_main.ensures.usage.0 is quiet
+          ])
+          (not_run (texts c.args.words.now) (λ run. let e = c.is_first_word.ensures.1 run in let f = c.if-is_first_word.false in cc)) is same
     ]

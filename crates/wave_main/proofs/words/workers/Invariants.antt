@@ -1,4 +1,4 @@
-use Rattle.std.proofs.Common.{ℕ, ◌≡◌, ◌<◌, ◌≤◌}
+use Rattle.std.proofs.Common.{ℕ, ◌<◌}
 use Rattle.wave_main.specs.Words.{IsWorkers}
 use Rattle.wave_main.proofs.words.workers.Given as goal
 
