@@ -14,7 +14,8 @@ case $program in
 /*) ;;
 *) program=$(pwd -P)/$program ;;
 esac
-scratch=$(mktemp -d) || exit 1
+scratch=${TMPDIR:-/tmp}/wave-tests.$$
+mkdir "$scratch" || exit 1
 trap 'rm -rf "$scratch"' EXIT
 passed=0
 failed=0
@@ -51,7 +52,7 @@ for folder in "$here"/cases/*/; do
     else
         failed=$((failed + 1))
         echo "$name: wrong$wrong"
-        [ ! -f "$scratch/stderr" ] || head -c 300 "$scratch/stderr"
+        [ ! -f "$scratch/stderr" ] || sed 3q "$scratch/stderr"
     fi
 done
 
