@@ -1,0 +1,4 @@
+pub mod Counts
+pub mod Parts
+pub mod Sorting
+pub mod Starts

@@ -1,0 +1,6 @@
+//! Which rows stand before each row: a list of pairs becomes lists of predecessors, in linear work.
+#![tactic(auto)]
+
+pub mod buckets;
+pub mod lists;
+
