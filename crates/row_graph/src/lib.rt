@@ -2,5 +2,7 @@
 #![tactic(auto)]
 
 pub mod buckets;
+mod distinct;
 pub mod lists;
-
+pub mod preds;
+mod turned;

@@ -1,5 +1,5 @@
 // Lists of rows, one after another in one array.
-ghost use Rattle.std.specs.Prelude.{◌≡◌, ◌==◌, ◌<◌, ◌++◌, ◌+◌, [], length, map, sum_by, slice_index_or, IfOk, OnOk};
+ghost use Rattle.std.specs.Prelude.{◌≡◌, ◌==◌, ◌<◌, ◌++◌, ◌+◌, ◌^◌, [], length, map, sum_by, slice_index_or, IfOk, OnOk};
 ghost use Rattle.row_graph.specs.Cut.{IsCut, cut, part};
 
 use std::alloc::Global;
@@ -36,7 +36,8 @@ impl Lists {
 
     /// The number of lists.
     pub fn len(&self) -> usize
-        ensures { result ≡ length self.now }
+        ensures len { result ≡ length self.now }
+        ensures fits { length self.now + 1 < 2 ^ 64 }
     {
         self.starts.len() - 1
     }

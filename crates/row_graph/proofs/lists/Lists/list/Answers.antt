@@ -1,4 +1,4 @@
-use Rattle.std.proofs.Common.{◌≡◌, ◌+◌, ◌-◌, ◌<◌, [], length, arith}
+use Rattle.std.proofs.Common.{◌-◌, ◌<◌, [], length, arith}
 use Rattle.row_graph.proofs.Parts.{length-cut, get_or-cut}
 use Rattle.row_graph.proofs.lists.Lists.list.Goals as goal
 

@@ -1,4 +1,3 @@
-use Rattle.std.proofs.Common.{rules}
 use Rattle.row_graph.proofs.Parts.{sum_by-cut}
 use Rattle.row_graph.proofs.lists.Lists.total.Goals as goal
 
