@@ -24,7 +24,7 @@ Rising-lower : (low high : ℕ) (rows : List RowId) → low ≤ high → Rising 
 Rising-lower low high [] l h = tt
 Rising-lower low high (r ∷ rows) l h = (omega (arith, h.0), h.1)
 
-Climbing-lower : (low high : ℕ) (rows : List RowId) → low ≤ high → Climbing high rows → Climbing low rows
+pub Climbing-lower : (low high : ℕ) (rows : List RowId) → low ≤ high → Climbing high rows → Climbing low rows
 Climbing-lower low high [] l h = tt
 Climbing-lower low high (r ∷ rows) l h = (omega (arith, h.0), h.1)
 

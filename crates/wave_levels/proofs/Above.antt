@@ -1,5 +1,5 @@
 -- The least number above all of a list.
-use Rattle.std.proofs.Common.{◌≡◌, ℕ, suc, zero, ◌+◌, ◌-◌, ◌<◌, ◌≤◌, ◌∙◌, ◌++◌, ◌⊎◌, inl, inr, max, List, [], ◌∷◌, All, length, get_or, map, arith, rules, refl, ap, sym, subst}
+use Rattle.std.proofs.Common.{◌≡◌, ℕ, suc, zero, ◌+◌, ◌<◌, ◌≤◌, ◌++◌, inl, inr, max, List, [], ◌∷◌, length, get_or, arith}
 use Rattle.std.proofs.lemmas.Bool.{cases_lt}
 use Rattle.wave_levels.specs.Levels.{above}
 
@@ -13,10 +13,11 @@ pub above-attained : (xs : List ℕ) (m : ℕ) → above xs ≡ m + 1 → (k : �
 above-attained [] m h = absurd (omega (arith, h))
 above-attained (x ∷ xs) m h =
     elim (cases_lt m (above xs)) [
-      inl l ↦
-        let r = above-attained xs m (omega (arith, h)) in
-        (suc r.0, omega (arith, r.1), r.2)
-    | inr g ↦ (zero, omega arith, omega (arith, h)) ]
+      | inl l ↦
+          let r = above-attained xs m (omega (arith, h)) in
+          (suc r.0, omega (arith, r.1), r.2)
+      | inr g ↦ (zero, omega arith, omega (arith, h))
+    ]
 
 -- nothing that is above all is below it
 pub above-le : (xs : List ℕ) (m : ℕ) → ((k : ℕ) → k < length xs → get_or xs k 0 < m) → above xs ≤ m

@@ -1,12 +1,11 @@
 -- The levels while rows are taken in order.
-use Rattle.std.proofs.Common.{◌≡◌, ℕ, suc, zero, ◌+◌, ◌-◌, ◌<◌, ◌≤◌, ◌^◌, ◌∙◌, ◌++◌, ◌⊎◌, inl, inr, max, List, [], ◌∷◌, All, length, get_or, map, arith, rules, refl, ap, sym, subst}
+use Rattle.std.proofs.Common.{◌≡◌, ℕ, ◌+◌, ◌<◌, ◌≤◌, ◌∙◌, ◌++◌, inl, inr, List, [], ◌∷◌, All, length, get_or, map, arith, refl, ap, sym, subst}
 use Rattle.std.proofs.lemmas.Bool.{cases_lt}
 use Rattle.std.proofs.lemmas.List.{get_or_append_left, get_or_push, length_push}
 use Rattle.std.proofs.lemmas.List.Elements.{All-head, All-tail}
 use Rattle.wave_base.specs.declared.types.RowId.{RowId}
 use Rattle.row_graph.specs.Predecessors.{before, IsGraph}
-use Rattle.wave_levels.specs.Levels.{above, level_at, AreLevels}
-use Rattle.wave_levels.proofs.Above.{above-le}
+use Rattle.wave_levels.specs.Levels.{above, level_at}
 
 -- the first rows have their levels, none of which is above its row
 pub record LevelsSoFar (graph : List (List RowId)) (rows : ℕ) (levels : List ℕ) : Type 0 where
@@ -25,24 +24,26 @@ map-same levels level (r ∷ rows) h =
 
 pub levels_more : (graph : List (List RowId)) (rows : ℕ) (levels : List ℕ) (level : ℕ) → LevelsSoFar graph rows levels → level ≡ above (map (level_at levels) (before graph rows)) → level ≤ rows → LevelsSoFar graph (rows + 1) (levels ++ level ∷ [])
 levels_more graph rows levels level s is small = record {
-    graph_is = s.graph_is;
-    many = length_push levels level ∙ omega (arith, s.many);
-    level_is = λ k h. elim (cases_lt k rows) as (λ _. get_or (levels ++ level ∷ []) k 0 ≡ above (map (level_at (levels ++ level ∷ [])) (before graph k))) [
-        inl l ↦
-          let a = get_or_append_left levels (level ∷ []) 0 k (omega (arith, s.many)) in
-          let below : All (λ (r : RowId). r.0 < length levels) (before graph k) = λ q d m. (let x = s.graph_is.1 k q d m in omega (arith, x, s.many)) in
-          a ∙ s.level_is k l ∙ ap above (sym (map-same levels level (before graph k) below))
-      | inr g ↦
-          let e : rows ≡ k = omega arith in
-          let a = get_or_push levels level 0 rows s.many in
-          let below : All (λ (r : RowId). r.0 < length levels) (before graph rows) = λ q d m. (let x = s.graph_is.1 rows q d m in omega (arith, x, s.many)) in
-          let here : get_or (levels ++ level ∷ []) rows 0 ≡ above (map (level_at (levels ++ level ∷ [])) (before graph rows)) = a ∙ is ∙ ap above (sym (map-same levels level (before graph rows) below)) in
-          subst (λ (k : ℕ). get_or (levels ++ level ∷ []) k 0 ≡ above (map (level_at (levels ++ level ∷ [])) (before graph k))) e here ];
-    low = λ k h. elim (cases_lt k rows) [
-        inl l ↦
-          let a = get_or_append_left levels (level ∷ []) 0 k (omega (arith, s.many)) in
-          omega (arith, a, s.low k l)
-      | inr g ↦
-          let a = get_or_push levels level 0 k (omega (arith, s.many)) in
-          omega (arith, a) ];
-  }
+  graph_is = s.graph_is;
+  many = length_push levels level ∙ omega (arith, s.many);
+  level_is = λ k h. elim (cases_lt k rows) as (λ _. get_or (levels ++ level ∷ []) k 0 ≡ above (map (level_at (levels ++ level ∷ [])) (before graph k))) [
+    | inl l ↦
+        let a = get_or_append_left levels (level ∷ []) 0 k (omega (arith, s.many)) in
+        let below : All (λ (r : RowId). r.0 < length levels) (before graph k) = λ q d m. (let x = s.graph_is.1 k q d m in omega (arith, x, s.many)) in
+        a ∙ s.level_is k l ∙ ap above (sym (map-same levels level (before graph k) below))
+    | inr g ↦
+        let e : rows ≡ k = omega arith in
+        let a = get_or_push levels level 0 rows s.many in
+        let below : All (λ (r : RowId). r.0 < length levels) (before graph rows) = λ q d m. (let x = s.graph_is.1 rows q d m in omega (arith, x, s.many)) in
+        let here : get_or (levels ++ level ∷ []) rows 0 ≡ above (map (level_at (levels ++ level ∷ [])) (before graph rows)) = a ∙ is ∙ ap above (sym (map-same levels level (before graph rows) below)) in
+        subst (λ (k : ℕ). get_or (levels ++ level ∷ []) k 0 ≡ above (map (level_at (levels ++ level ∷ [])) (before graph k))) e here
+  ];
+  low = λ k h. elim (cases_lt k rows) [
+    | inl l ↦
+        let a = get_or_append_left levels (level ∷ []) 0 k (omega (arith, s.many)) in
+        omega (arith, a, s.low k l)
+    | inr g ↦
+        let a = get_or_push levels level 0 k (omega (arith, s.many)) in
+        omega (arith, a)
+  ];
+}

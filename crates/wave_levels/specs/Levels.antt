@@ -22,3 +22,11 @@ AreLevels graph levels =
 -- the rows of a level, ascending
 abbrev pub rows_at : List ℕ → ℕ → List RowId
 rows_at levels level = map row (filter (λ j. slice_index levels j == level) (range_with_len 0 (length levels)))
+
+-- a row beside its level
+abbrev pub beside : List ℕ → ℕ → ℕ × RowId
+beside levels j = (slice_index levels j, row j)
+
+-- each row beside its level
+abbrev pub levelled : List ℕ → List (ℕ × RowId)
+levelled levels = map (beside levels) (range_with_len 0 (length levels))

@@ -1,6 +1,7 @@
 // The level of each row.
 ghost use Rattle.std.specs.Prelude.{◌≡◌, ℕ, ◌<◌, ◌≤◌, ◌^◌, All, length, map, slice_index, vec_len, IfOk};
 ghost use Rattle.wave_base.specs.declared.types.RowId.{RowId};
+ghost use Rattle.row_graph.specs.Predecessors.{IsGraph};
 ghost use Rattle.wave_levels.specs.Levels.{AreLevels, above, level_at};
 
 use row_graph::preds::Preds;
@@ -11,7 +12,7 @@ use wave_base::types::{Memory, RowId};
 pub fn level_of_each(alloc: Global, preds: &Preds) -> Result<Vec<u32>, Memory>
     ensures levels { IfOk result (λ levels. AreLevels preds.now levels.items) }
     ensures low { IfOk result (λ levels. (k : ℕ) → k < length preds.now → slice_index levels.items k ≤ k) }
-    ensures fits { length preds.now < 2 ^ 32 }
+    ensures graph { IsGraph preds.now }
 {
     let rows = preds.rows();
     let mut levels = Vec::with_capacity(alloc, rows as usize)?;
