@@ -2,7 +2,9 @@
 use Rattle.std.proofs.Common.{◌≡◌, ◌↔◌, ℕ, suc, zero, ◌+◌, ◌<◌, ◌≤◌, ◌∙◌, ◌⊎◌, inl, inr, List, [], ◌∷◌, Bool, true, false, cond, eqb, Contains, length, get_or, map, arith, refl, ap, sym, subst}
 use Rattle.std.specs.List.{range_with_len, filter}
 use Rattle.std.proofs.lemmas.Bool.{cases_eq, cases_lt, eqb-true, eq-eqb}
-use Rattle.std.proofs.lemmas.List.{get_or_default}
+use Rattle.std.proofs.lemmas.List.{get_or_default, length-map}
+use Rattle.std.proofs.lemmas.List.Sums.{length-filter, count_by-le-length}
+use Rattle.std.proofs.lemmas.List.FromFn.{length-range_with_len}
 use Rattle.wave_base.specs.declared.types.RowId.{RowId}
 use Rattle.row_graph.specs.Rows.{row, row_zero}
 use Rattle.row_graph.specs.Predecessors.{AreAscending}
@@ -102,3 +104,9 @@ pub first_is_least : (levels : List ℕ) (level : ℕ) (rows : List RowId) → (
 first_is_least levels level rows m asc r l e =
     let c = (m r).1 (l, e) in
     least_at levels level rows 0 (omega (arith, c.1)) asc (λ k h. absurd (omega (arith, h))) r c e
+
+pub rows_at-few : (levels : List ℕ) (level : ℕ) → length (rows_at levels level) ≤ length levels
+rows_at-few levels level =
+    let ks : List ℕ = range_with_len 0 (length levels) in
+    let p : ℕ → Bool = λ j. eqb (get_or levels j 0) level in
+    omega (arith, length-map (filter p ks) row, length-filter p ks, count_by-le-length p ks, length-range_with_len 0 (length levels))

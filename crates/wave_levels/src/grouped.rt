@@ -62,6 +62,7 @@ impl Levels {
         ensures members { (r : RowId) → Contains result.now r
             ↔ ((r.0 < length self.now) × (level_at self.now r ≡ level)) }
         ensures ascending { AreAscending result.now }
+        ensures few { length result.now < 2 ^ 32 }
     {
         self.rows.list(level as usize)
     }

@@ -1,8 +1,8 @@
-use Rattle.std.proofs.Common.{◌≡◌, ◌↔◌, ◌<◌, ◌∙◌, ℕ, List, Contains, length, ap, sym, subst}
+use Rattle.std.proofs.Common.{◌≡◌, ◌↔◌, ◌<◌, ◌∙◌, ℕ, List, Contains, length, ap, sym, subst, arith}
 use Rattle.wave_base.specs.declared.types.RowId.{RowId}
 use Rattle.row_graph.specs.Predecessors.{AreAscending}
 use Rattle.wave_levels.specs.Levels.{above, level_at, rows_at}
-use Rattle.wave_levels.proofs.RowsAt.{rows_at-members, rows_at-ascending}
+use Rattle.wave_levels.proofs.RowsAt.{rows_at-members, rows_at-ascending, rows_at-few}
 use Rattle.wave_levels.proofs.grouped.Levels.rows.Goals as goal
 use Rattle.wave_levels.proofs.grouped.Levels.rows.Goals.{After-list}
 
@@ -17,3 +17,9 @@ returns-clause-members c =
 
 pub returns-clause-ascending : goal.returns-clause-ascending
 returns-clause-ascending c = subst AreAscending (sym (rows_are c)) (rows_at-ascending c.args.self.now c.args.level)
+
+pub returns-clause-few : goal.returns-clause-few
+returns-clause-few c =
+    let same = ap (λ (rows : List RowId). length rows) (rows_are c) in
+    let view = ap (λ (ls : List ℕ). length ls) c.self.view_is in
+    omega (arith, same, view, c.self.invariant.0, rows_at-few c.args.self.now c.args.level)
