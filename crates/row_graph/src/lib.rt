@@ -1,0 +1,8 @@
+//! Which rows stand before each row: a list of pairs becomes lists of predecessors, in linear work.
+#![tactic(auto)]
+
+pub mod buckets;
+mod distinct;
+pub mod lists;
+pub mod preds;
+mod turned;

@@ -1,0 +1,4 @@
+pub mod Blocks
+pub mod Division
+pub mod Grouping
+pub mod Sharing

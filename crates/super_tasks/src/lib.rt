@@ -1,0 +1,5 @@
+//! The rows of each level shared out among workers, as tasks.
+#![tactic(auto)]
+
+pub mod group;
+mod share;
