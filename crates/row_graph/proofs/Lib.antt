@@ -3,5 +3,6 @@ pub mod Counts
 pub mod Graph
 pub mod Members
 pub mod Parts
+pub mod PlainGraph
 pub mod Sorting
 pub mod Starts

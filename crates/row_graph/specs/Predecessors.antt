@@ -20,3 +20,8 @@ pub record ArePredecessors (rows : ℕ) (pairs : List (RowId × RowId)) (graph :
   pub each_row : length graph ≡ rows
   pub pairs_alone : (i j : RowId) → Contains (before graph j.0) i ↔ Contains pairs (i, j)
   pub ascending : (j : ℕ) → AreAscending (before graph j)
+
+-- the rows before one row
+pub record AreRowsBefore (pairs : List (RowId × RowId)) (last : RowId) (rows : List RowId) : Type 0 where
+  pub pairs_alone : (i : RowId) → Contains rows i ↔ Contains pairs (i, last)
+  pub ascending : AreAscending rows

@@ -4,5 +4,6 @@
 pub mod buckets;
 mod distinct;
 pub mod lists;
+pub mod plain;
 pub mod preds;
 mod turned;

@@ -1,5 +1,5 @@
 // Lists of rows, one after another in one array.
-ghost use Rattle.std.specs.Prelude.{◌≡◌, ◌==◌, ◌<◌, ◌++◌, ◌+◌, ◌^◌, [], length, map, sum_by, slice_index_or, IfOk, OnOk};
+ghost use Rattle.std.specs.Prelude.{◌≡◌, ◌==◌, ◌<◌, ◌++◌, ◌+◌, ◌^◌, ◌∷◌, [], length, map, sum_by, slice_index_or, IfOk, OnOk};
 ghost use Rattle.row_graph.specs.Cut.{IsCut, cut, part};
 
 use std::alloc::Global;
@@ -32,6 +32,31 @@ impl Lists {
         ensures { result ≡ cut starts.items flat.items }
     {
         Lists { starts, flat }
+    }
+
+    /// No lists.
+    pub fn none(alloc: Global) -> Result<Lists, Memory>
+        ensures { IfOk result (λ lists. lists ≡ []) }
+    {
+        let mut starts = Vec::new(alloc);
+        starts.push(0)?;
+        Ok(Lists {
+            starts,
+            flat: Vec::new(alloc),
+        })
+    }
+
+    /// One list more, at the end.
+    pub fn with_list(self, list: &[RowId]) -> Result<Lists, Memory>
+        ensures { IfOk result (λ lists. lists ≡ self ++ list.now ∷ []) }
+    {
+        let Lists {
+            mut starts,
+            mut flat,
+        } = self;
+        flat.extend_from_slice(list)?;
+        starts.push(flat.len())?;
+        Ok(Lists { starts, flat })
     }
 
     /// The number of lists.

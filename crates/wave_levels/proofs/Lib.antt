@@ -4,3 +4,4 @@ pub mod Grouping
 pub mod Longest
 pub mod Rising
 pub mod RowsAt
+pub mod Searching

@@ -13,8 +13,8 @@ use wave_base::types::{Memory, RowId};
 /// The level of each row, and the rows of each level.
 #[derive(Debug, Drop)]
 pub struct Levels {
-    levels: Vec<u32>,
-    rows: Lists,
+    pub(crate) levels: Vec<u32>,
+    pub(crate) rows: Lists,
 }
 
 impl Model for Levels {
@@ -69,7 +69,7 @@ impl Levels {
 }
 
 // The number of levels.
-fn count_of(levels: &[u32]) -> u32
+pub(crate) fn count_of(levels: &[u32]) -> u32
     requires low { (k : ℕ) → k < length levels.now → slice_index levels.now k ≤ k }
     requires fits { length levels.now < 2 ^ 32 }
     ensures { result ≡ above levels.now }

@@ -5,3 +5,4 @@ pub mod chains;
 mod each;
 pub mod grouped;
 pub mod levels;
+pub mod plain;
