@@ -62,6 +62,13 @@ impl RowTaskList {
         self.items.as_slice()
     }
 
+    /// The tasks of a `Vec`. It takes no memory.
+    pub fn from_vec(items: Vec<RowTask>) -> RowTaskList
+        ensures { result ≡ items.items }
+    {
+        RowTaskList { items }
+    }
+
     /// The tasks as a `Vec`. It takes no memory.
     pub fn into_vec(self) -> Vec<RowTask>
         ensures { result.items ≡ self }
@@ -103,6 +110,21 @@ impl TaskList {
     {
         self.items.push(task)?;
         Ok(())
+    }
+
+    /// The tasks of a `Vec`. It takes no memory.
+    pub fn from_vec(items: Vec<Task>) -> TaskList
+        ensures { result ≡ items.items }
+    {
+        TaskList { items }
+    }
+
+    /// The tasks as a `Vec`. It takes no memory.
+    pub fn into_vec(self) -> Vec<Task>
+        ensures { result.items ≡ self }
+    {
+        let TaskList { items } = self;
+        items
     }
 
     /// The tasks as a slice.
@@ -197,6 +219,14 @@ impl TaskLists {
         ensures { result ≡ items.items }
     {
         TaskLists { items }
+    }
+
+    /// The lists as a `Vec`. It takes no memory.
+    pub fn into_vec(self) -> Vec<TaskList>
+        ensures { result.items ≡ self }
+    {
+        let TaskLists { items } = self;
+        items
     }
 
     /// The lists as a slice.

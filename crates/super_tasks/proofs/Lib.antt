@@ -1,4 +1,5 @@
 pub mod Blocks
 pub mod Division
 pub mod Grouping
+pub mod Searching
 pub mod Sharing

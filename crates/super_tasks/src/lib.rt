@@ -2,4 +2,7 @@
 #![tactic(auto)]
 
 pub mod group;
+pub mod plain;
 mod share;
+#[cfg(test)]
+mod worked;
