@@ -1,0 +1,4 @@
+pub mod Pushed
+pub mod Soundness
+mod Steps
+mod Values

@@ -1,0 +1,7 @@
+use Rattle.std.proofs.Common.{◌≡◌, ◌++◌, map, take}
+use Rattle.std.specs.List.{flat_map}
+use Rattle.index_props.specs.Rules.{pair_instance}
+use Rattle.index_props.proofs.pairs.push_pairs.Given as goal
+
+abbrev pub invariant-loop-s : goal.invariant-loop-s
+invariant-loop-s l = l.into ≡ l.fn.into ++ flat_map (λ s. map (pair_instance l.line s) l.es) (take l.s-index l.es)

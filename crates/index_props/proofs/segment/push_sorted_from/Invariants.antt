@@ -1,0 +1,7 @@
+use Rattle.std.proofs.Common.{◌≡◌, ◌++◌, map, take}
+use Rattle.std.specs.List.{flat_map}
+use Rattle.index_props.specs.Rules.{sorted_instance}
+use Rattle.index_props.proofs.segment.push_sorted_from.Given as goal
+
+abbrev pub invariant-loop-t : goal.invariant-loop-t
+invariant-loop-t l = l.into ≡ l.fn.into ++ flat_map (λ t. map (sorted_instance l.order l.s t) l.gs) (take l.t-index l.es)

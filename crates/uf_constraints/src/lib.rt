@@ -1,0 +1,9 @@
+//! Constraints over index terms: their truth, and the atoms of a system of them.
+#![tactic(auto)]
+
+pub mod env;
+pub mod listing;
+pub mod same;
+pub mod system;
+pub mod truth;
+pub mod universe;
