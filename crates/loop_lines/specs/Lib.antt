@@ -1,0 +1,10 @@
+pub mod Grammar
+pub mod Reading
+pub mod Exprs
+pub mod ExprReading
+pub mod Words
+pub mod Tokens
+pub mod TokenReading
+pub mod Lines
+pub mod LineReading
+pub mod Fitting

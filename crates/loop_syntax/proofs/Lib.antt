@@ -1,0 +1,5 @@
+pub mod PrintAscii
+pub mod PrintTermsAscii
+pub mod PrintHeadsAscii
+pub mod PrintNestAscii
+pub mod NestLaws

@@ -1,0 +1,14 @@
+pub mod Numbered
+pub mod Scope
+pub mod NameRules
+pub mod Resolved
+pub mod Counts
+pub mod Nesting
+pub mod TextNest
+pub mod PrintNames
+pub mod PrintBlocks
+pub mod PrintTerms
+pub mod PrintExprs
+pub mod PrintHeads
+pub mod PrintItems
+pub mod PrintText

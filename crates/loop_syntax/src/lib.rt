@@ -1,0 +1,10 @@
+//! The text of a loop nest: the nest that it is, and its canonical text.
+#![tactic(auto)]
+
+pub mod items;
+pub mod names;
+pub mod numbered;
+pub mod print;
+pub mod read;
+pub mod refusal;
+pub mod scope;
