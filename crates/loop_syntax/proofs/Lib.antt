@@ -3,3 +3,9 @@ pub mod PrintTermsAscii
 pub mod PrintHeadsAscii
 pub mod PrintNestAscii
 pub mod NestLaws
+pub mod ScopeLaws
+pub mod NumberedLaws
+pub mod StageLaws
+pub mod FewLaws
+pub mod NarrowLaws
+pub mod BuildLaws

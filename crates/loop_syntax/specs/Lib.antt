@@ -3,7 +3,12 @@ pub mod Scope
 pub mod NameRules
 pub mod Resolved
 pub mod Counts
+pub mod Flags
+pub mod Narrow
 pub mod Nesting
+pub mod Stages
+pub mod Bodies
+pub mod Gathering
 pub mod TextNest
 pub mod PrintNames
 pub mod PrintBlocks

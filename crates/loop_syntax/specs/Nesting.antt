@@ -41,8 +41,3 @@ open_marks (o ∷ os) = marks o.before ++ Opens o.line o.head ∷ open_marks os
 -- the lines of open blocks and of the items behind them
 abbrev pub so_far : List OpenBlock → List Item → List Mark
 so_far around items = open_marks around ++ marks items
-
--- a block's end: the block round it goes on, or there is none
-abbrev pub IsClosed : List OpenBlock → List Item → List OpenBlock → Option (List Item) → Type 0
-IsClosed old body new None = old ≡ []
-IsClosed old body new (Some items) = so_far new items ≡ so_far old body ++ Ends ∷ []

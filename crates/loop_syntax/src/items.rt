@@ -1,11 +1,10 @@
-// Nested items, built line by line.
+// Blocks of items and their lines.
 ghost use Rattle.std.specs.Prelude.{◌≡◌, ◌++◌, [], ◌∷◌, IfOk};
-ghost use Rattle.loop_syntax.specs.Nesting.{Mark, Opens, Sets, Ends, item_marks, marks, so_far, IsClosed};
+ghost use Rattle.loop_syntax.specs.Nesting.{Opens, Sets, Ends, item_marks, marks};
 
 use loop_core::name::Name;
 use loop_core::nest::{Expr, Item, Rel, Term};
 use sqlite_items::Items;
-use std::alloc::Global;
 use wave_base::types::{ArrayId, Memory};
 
 /// The first line of a block.
@@ -44,18 +43,12 @@ fn block(line: u16, head: Head, body: Items<Item>) -> Item
     }
 }
 
-/// The items behind the first line of a block: none yet. Those before it wait with the block.
-pub fn open_block(
-    alloc: Global,
-    around: &mut Items<OpenBlock>,
-    before: Items<Item>,
-    line: u16,
-    head: Head,
-) -> Result<Items<Item>, Memory>
-    ensures { IfOk result (λ items. so_far around.new items ≡ so_far around.old before ++ Opens line head ∷ []) }
+fn add(before: Items<Item>, item: Item) -> Result<Items<Item>, Memory>
+    ensures { IfOk result (λ items. marks items ≡ marks before ++ item_marks item) }
 {
-    around.push(OpenBlock { line, head, before })?;
-    Ok(Items::new(alloc))
+    let mut items = before;
+    items.push(item)?;
+    Ok(items)
 }
 
 /// The items with a statement behind them.
@@ -68,27 +61,19 @@ pub fn add_statement(
 ) -> Result<Items<Item>, Memory>
     ensures { IfOk result (λ items. marks items ≡ marks before ++ Sets line array at value ∷ []) }
 {
-    let mut items = before;
-    items.push(Item::Set {
+    let item = Item::Set {
         line,
         array,
         at,
         value,
-    })?;
-    Ok(items)
+    };
+    add(before, item)
 }
 
-/// The items with the innermost open block behind them, which has these items and ends here.
-pub fn close_block(
-    around: &mut Items<OpenBlock>,
-    body: Items<Item>,
-) -> Result<Option<Items<Item>>, Memory>
-    ensures { IfOk result (λ closed. IsClosed around.old body around.new closed) }
+/// The items before a block, and the block behind them, which has these items.
+pub fn close_block(begun: OpenBlock, body: Items<Item>) -> Result<Items<Item>, Memory>
+    ensures { IfOk result (λ items. marks items ≡ marks begun.before ++ Opens begun.line begun.head ∷ (marks body ++ Ends ∷ [])) }
 {
-    let Some(OpenBlock { line, head, before }) = around.pop() else {
-        return Ok(None);
-    };
-    let mut items = before;
-    items.push(block(line, head, body))?;
-    Ok(Some(items))
+    let OpenBlock { line, head, before } = begun;
+    add(before, block(line, head, body))
 }

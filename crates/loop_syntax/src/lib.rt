@@ -1,10 +1,16 @@
 //! The text of a loop nest: the nest that it is, and its canonical text.
 #![tactic(auto)]
 
+pub mod body;
+pub mod build;
+pub mod constants;
+pub mod counts;
 pub mod items;
 pub mod names;
 pub mod numbered;
 pub mod print;
 pub mod read;
 pub mod refusal;
+pub mod resolve;
 pub mod scope;
+pub mod written;

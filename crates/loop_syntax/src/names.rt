@@ -1,13 +1,13 @@
 // The rules on names, on each line from left to right.
-ghost use Rattle.std.specs.Prelude.{◌≡◌, ◌≤◌, ◌^◌, length, IfOk};
+ghost use Rattle.std.specs.Prelude.{◌≡◌, ◌≤◌, ◌<◌, ◌+◌, ◌^◌, None, length, IfOk};
 ghost use Rattle.text_base.specs.Lines.{lines};
 ghost use Rattle.loop_core.specs.IsNest.{same_size};
 ghost use Rattle.loop_lines.specs.Words.{either};
 ghost use Rattle.loop_syntax.specs.Numbered.{numbered};
-ghost use Rattle.loop_syntax.specs.Scope.{empty};
+ghost use Rattle.loop_syntax.specs.Scope.{empty, scope_after};
 ghost use Rattle.loop_syntax.specs.NameRules.{new_fault, variable_fault, index_fault, sized_fault, alike_fault, data_fault, target_fault, by_fault, before_fault, term_fault, terms_fault, value_fault, prop_fault, line_fault, first_fault};
 
-use crate::numbered::NumberedLines;
+use crate::numbered::{Numbered, NumberedLines};
 use crate::refusal::NameKind;
 use crate::scope::{ArrayUse, Meaning, Scope};
 use loop_core::decl::Size;
@@ -203,6 +203,20 @@ pub fn line_fault(scope: &Scope, line: &Line) -> Option<NameKind>
     }
 }
 
+/// The first rule that a line breaks; where it breaks none, the scope goes past it.
+fn step(scope: &mut Scope, next: &Numbered) -> Result<Option<NameKind>, Memory>
+    requires { scope.old.arrays + 4 < 2 ^ 32 }
+    ensures fault { IfOk result (λ fault. fault ≡ line_fault scope.old next.now.line) }
+    ensures passed { IfOk result (λ fault. fault ≡ None → scope.new ≡ scope_after scope.old next.now) }
+    ensures few { IfOk result (λ _. scope.new.arrays ≤ scope.old.arrays + 4) }
+{
+    if let Some(kind) = line_fault(scope, &next.line) {
+        return Ok(Some(kind));
+    }
+    scope.pass(next.number, &next.line)?;
+    Ok(None)
+}
+
 /// The first line of a text that breaks a rule on names, and which rule. It goes once over the text.
 pub fn first_fault(alloc: Global, bytes: &[u8]) -> Result<Option<(u32, NameKind)>, Memory>
     requires { length bytes.now ≤ 2 ^ 28 }
@@ -211,10 +225,10 @@ pub fn first_fault(alloc: Global, bytes: &[u8]) -> Result<Option<(u32, NameKind)
     let mut scope = Scope::new(alloc);
     let mut left = NumberedLines::of(bytes);
     while let Some(next) = left.next(alloc)? {
-        if let Some(kind) = line_fault(&scope, &next.line) {
-            return Ok(Some((next.number, kind)));
+        match step(&mut scope, &next)? {
+            Some(kind) => return Ok(Some((next.number, kind))),
+            None => {}
         }
-        scope.pass(next.number, &next.line)?;
     }
     Ok(None)
 }

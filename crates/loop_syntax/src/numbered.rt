@@ -1,8 +1,7 @@
 // The lines of a text that have words, one after another.
-ghost use Rattle.std.specs.Prelude.{◌≡◌, ◌+◌, ◌≤◌, ◌^◌, [], ◌∷◌, length, IfOk};
-ghost use Rattle.text_base.specs.Lines.{lines};
+ghost use Rattle.std.specs.Prelude.{◌≡◌, ◌+◌, ◌≤◌, ◌^◌, [], ◌∷◌, length, ◌<◌, IfOk, IfSome};
 ghost use Rattle.loop_lines.specs.Fitting.{text_line};
-ghost use Rattle.loop_syntax.specs.Numbered.{worded, numbered, numbered_from, Follows};
+ghost use Rattle.loop_syntax.specs.Numbered.{worded, left, Follows};
 
 use loop_lines::line::Line;
 use loop_lines::place::text_line;
@@ -19,22 +18,21 @@ pub struct Numbered {
     pub line: Line,
 }
 
-/// The lines of a text from a place on, which contracts see as a list. Lines that are skipped, and
-/// those of no form, are counted alone.
+/// The lines of a text from a place on. Lines that are skipped, and those of no form, are counted
+/// alone.
+#[derive(Drop)]
 pub struct NumberedLines<'a> {
     number: u32,
     rest: &'a [u8],
 }
 
 impl<'a> Model for NumberedLines<'a> {
-    ghost use Rattle.std.specs.Prelude.{List, ◌+◌, ◌≤◌, ◌^◌, length};
-    ghost use Rattle.text_base.specs.Lines.{lines};
-    ghost use Rattle.loop_syntax.specs.declared.numbered.Numbered.{Numbered};
-    ghost use Rattle.loop_syntax.specs.Numbered.{numbered_from};
+    ghost use Rattle.std.specs.Prelude.{◌+◌, ◌≤◌, ◌^◌, length};
+    ghost use Rattle.loop_syntax.specs.Numbered.{Unread};
 
-    ghost Value = { List Numbered };
+    ghost Value = { Unread };
 
-    ghost view = { λ l. numbered_from l.number (lines l.rest.now) };
+    ghost view = { λ l. record { number = l.number; bytes = l.rest.now } };
 
     ghost invariant = { λ l. l.number + length l.rest.now ≤ 2 ^ 28 + 1 };
 }
@@ -54,7 +52,7 @@ impl<'a> NumberedLines<'a> {
     /// All lines of a text.
     pub fn of(text: &'a [u8]) -> NumberedLines<'a>
         requires { length text.now ≤ 2 ^ 28 }
-        ensures { result ≡ numbered (lines text.now) }
+        ensures { result ≡ record { number = 1; bytes = text.now } }
     {
         NumberedLines {
             number: 1,
@@ -65,15 +63,17 @@ impl<'a> NumberedLines<'a> {
     /// The next line that has words. `None` says that there is none. The work is linear in the bytes
     /// that it goes past.
     pub fn next(&mut self, alloc: Global) -> Result<Option<Numbered>, Memory>
-        ensures { IfOk result (λ next. Follows self.old next self.new) }
+        ensures lines { IfOk result (λ next. Follows (left self.old) next (left self.new)) }
+        ensures shrinks { IfOk result (λ next. IfSome next (λ _. length self.new.bytes < length self.old.bytes)) }
     {
         while !self.rest.is_empty() {
             let (line, after) = split_line(self.rest);
             let number = self.number;
             self.number += 1;
             self.rest = after;
-            if let Some(line) = line_of(alloc, line)? {
-                return Ok(Some(Numbered { number, line }));
+            match line_of(alloc, line)? {
+                Some(line) => return Ok(Some(Numbered { number, line })),
+                None => {}
             }
         }
         Ok(None)

@@ -1,5 +1,5 @@
 // What names stand for on a line.
-ghost use Rattle.std.specs.Prelude.{◌≡◌, ◌+◌, ◌<◌, ◌^◌, ◌++◌, reverse, IfOk};
+ghost use Rattle.std.specs.Prelude.{◌≡◌, ◌+◌, ◌<◌, ◌≤◌, ◌^◌, ◌++◌, length, reverse, IfOk};
 ghost use Rattle.std.specs.Str.{bytes_eq};
 ghost use Rattle.loop_syntax.specs.Scope.{empty, variables, found, meaning_of, declared, opened, closed, scope_behind, index_part, parts_from, part_use, own_use, dotted_use, use_of};
 
@@ -79,12 +79,18 @@ impl Model for Scope {
     ghost view = { λ s. record { declared = s.declared.items; arrays = s.arrays; blocks = reverse s.blocks.items } };
 }
 
+fn is_same(name: &Name, other: &Name) -> bool
+    ensures { result ≡ bytes_eq name.now other.now }
+{
+    name.as_slice() == other.as_slice()
+}
+
 /// The meaning of a name among names, the first one where it stands twice.
 fn among(known: &[Known], name: &Name) -> Option<Meaning>
     ensures { result ≡ found name.now known.now }
 {
     for entry in known {
-        if entry.name.as_slice() == name.as_slice() {
+        if is_same(name, &entry.name) {
             return Some(entry.meaning);
         }
     }
@@ -98,13 +104,29 @@ fn variable(blocks: &[Block], name: &Name) -> Option<Meaning>
     let mut left = blocks.len();
     while left > 0 {
         left -= 1;
-        if let Block::Repeated { line, name: own } = &blocks[left] {
-            if own.as_slice() == name.as_slice() {
-                return Some(Meaning::Variable(*line));
+        match &blocks[left] {
+            Block::Repeated { line, name: own } => {
+                if is_same(name, own) {
+                    return Some(Meaning::Variable(*line));
+                }
             }
+            Block::Guarded => {}
         }
     }
     None
+}
+
+/// How many of the blocks are loops.
+fn repeated(blocks: &[Block]) -> usize
+    ensures { result ≡ length (variables (reverse blocks.now)) }
+{
+    let mut count = 0;
+    for block in blocks {
+        if let Block::Repeated { .. } = block {
+            count += 1;
+        }
+    }
+    count
 }
 
 fn is_text(word: &[u8], text: &[u8]) -> bool
@@ -192,7 +214,15 @@ impl Scope {
         self.arrays
     }
 
+    /// How many loops are open.
+    pub fn loops(&self) -> usize
+        ensures { result ≡ length (variables self.now.blocks) }
+    {
+        repeated(self.blocks.as_slice())
+    }
+
     /// What a name stands for, where it is known.
+    #[tactic(auto, using(crate::proofs::ScopeLaws::found_first, crate::proofs::ScopeLaws::found_second))]
     pub fn meaning_of(&self, name: &Name) -> Option<Meaning>
         ensures { result ≡ meaning_of self.now name.now }
     {
@@ -240,7 +270,8 @@ impl Scope {
     /// Goes past a line: its declared name is known, and its block is open or closed.
     pub fn pass(&mut self, number: u32, line: &Line) -> Result<(), Memory>
         requires { self.old.arrays + 4 < 2 ^ 32 }
-        ensures { IfOk result (λ _. self.new ≡ scope_behind self.old number line.now) }
+        ensures scope { IfOk result (λ _. self.new ≡ scope_behind self.old number line.now) }
+        ensures few { IfOk result (λ _. self.new.arrays ≤ self.old.arrays + 4) }
     {
         let next = self.arrays;
         match line {

@@ -1,0 +1,122 @@
+-- Lines with rising numbers, and lines that pass no limit.
+use Rattle.std.proofs.Common.{◌≡◌, ℕ, zero, suc, ◌+◌, ◌*◌, ◌≤◌, ◌<◌, Bool, true, false, nat_lt, nat_le, if◌then◌else◌, List, [], ◌∷◌, length, Option, Some, None, refl, sym, ap, subst, ◌∙◌, arith}
+use Rattle.std.specs.List.{filter, onto_first}
+use Rattle.std.proofs.lemmas.Bool.Decides.{nat_tests}
+use Rattle.text_base.specs.Lines.{lines}
+use Rattle.loop_lines.specs.declared.line.Line.{Line}
+use Rattle.loop_lines.specs.Fitting.{text_line}
+use Rattle.loop_lines.specs.Reading.{or_else}
+use Rattle.loop_lines.specs.Words.{either}
+use Rattle.loop_syntax.specs.declared.numbered.Numbered.{Numbered}
+use Rattle.loop_syntax.specs.declared.refusal.LimitKind.{LimitKind}
+use Rattle.loop_syntax.specs.declared.refusal.LimitKind.TheVariants.{Lines, Constant, Arrays, Depth, References}
+use Rattle.loop_syntax.specs.Numbered.{worded, before, numbered_from}
+use Rattle.loop_syntax.specs.Scope.{Scope, scope_after, variables}
+use Rattle.loop_syntax.specs.Counts.{passed, constant_limit, scope_limit, limits_at, references, first_passed, is_within, lines_limit, first_limit, targets}
+use Rattle.loop_syntax.specs.Scope.{empty}
+use Rattle.loop_syntax.specs.Stages.{AreFew}
+
+-- numbers from n on, each above those before it
+abbrev pub Rise : ℕ → List Numbered → Type 0
+Rise n [] = Unit {0}
+Rise n (l ∷ ls) = (n ≤ l.number) × Rise (l.number + 1) ls
+
+sooner : (n : ℕ) (ls : List Numbered) → Rise (n + 1) ls → Rise n ls
+sooner n [] h = tt
+sooner n (l ∷ ls) h = (omega (arith, h.0), h.1)
+
+rise_before : (n : ℕ) (o : Option Line) (more : List Numbered) → Rise (n + 1) more → Rise n (before n o more)
+rise_before n None more h = sooner n more h
+rise_before n (Some l) more h = (omega arith, h)
+
+pub rises : (n : ℕ) (ls : List (List ℕ)) → Rise n (numbered_from n ls)
+rises n [] = tt
+rises n (l ∷ ls) = rise_before n (worded (text_line l)) (numbered_from (n + 1) ls) (rises (n + 1) ls)
+
+-- lines behind line 400
+pub none_within : (n : ℕ) (ls : List Numbered) → 400 < n → Rise n ls → filter is_within ls ≡ []
+none_within n [] lt h = refl
+none_within n (l ∷ ls) lt h =
+    let far : nat_le l.number 400 ≡ false = grind (arith, nat_tests, h.0) in
+    let more : filter is_within ls ≡ [] = none_within (l.number + 1) ls (omega (arith, h.0)) h.1 in
+    rw far more
+
+-- each number is below a bound
+abbrev pub Below : ℕ → List Numbered → Type 0
+Below m [] = Unit {0}
+Below m (l ∷ ls) = (l.number < m) × Below m ls
+
+below_before : (n m : ℕ) (o : Option Line) (more : List Numbered) → n < m → Below m more → Below m (before n o more)
+below_before n m None more lt h = h
+below_before n m (Some l) more lt h = (lt, h)
+
+pub below : (n m : ℕ) (ls : List (List ℕ)) → n + length ls ≤ m → Below m (numbered_from n ls)
+below n m [] h = tt
+below n m (l ∷ ls) h = below_before n m (worded (text_line l)) (numbered_from (n + 1) ls) (omega (arith, h)) (below (n + 1) m ls (omega (arith, h)))
+
+-- ---- limits
+
+either_none : {A : Type 0} (a b : Option A) → either a b ≡ None → (a ≡ None) × (b ≡ None)
+either_none None b e = (refl, e)
+either_none (Some x) b e = absurd cc
+
+known : {P : Type 0} (b : Bool) → ((b ≡ true) → P) → ((b ≡ false) → P) → P
+known true f g = f refl
+known false f g = g refl
+
+absent : {A : Type 0} {x : A} → Some x ≡ None → ⊥
+absent e = cc
+
+passed_none : (b : Bool) (kind : LimitKind) → passed b kind ≡ None → b ≡ false
+passed_none true kind e = absurd cc
+passed_none false kind e = refl
+
+-- what a line that passes no limit leaves
+pub record Keeps (s : Scope) (count : ℕ) : Type 0 where
+  pub arrays : s.arrays ≤ 64
+  pub loops : length (variables s.blocks) ≤ 6
+  pub references : count ≤ 16
+
+pub keeps : (l : Line) (s : Scope) (count : ℕ) → limits_at l s count ≡ None → Keeps s count
+keeps l s count e =
+    let deep = either (passed (nat_lt 6 (length (variables s.blocks))) Depth) (passed (nat_lt 16 count) References) in
+    let a = either_none (constant_limit l) (scope_limit s count) e in
+    let b = either_none (passed (nat_lt 64 s.arrays) Arrays) deep a.1 in
+    let c = either_none (passed (nat_lt 6 (length (variables s.blocks))) Depth) (passed (nat_lt 16 count) References) b.1 in
+    let f : nat_lt 64 s.arrays ≡ false = passed_none (nat_lt 64 s.arrays) Arrays b.0 in
+    let g : nat_lt 6 (length (variables s.blocks)) ≡ false = passed_none (nat_lt 6 (length (variables s.blocks))) Depth c.0 in
+    let h : nat_lt 16 count ≡ false = passed_none (nat_lt 16 count) References c.1 in
+    record { arrays = grind (arith, nat_tests, f); loops = grind (arith, nat_tests, g); references = grind (arith, nat_tests, h) }
+
+abbrev then_passed : ℕ → Option LimitKind → Option (ℕ × LimitKind) → Option (ℕ × LimitKind)
+then_passed n limit more = or_else limit (λ kind. Some (n, kind)) more
+
+then_none : (n : ℕ) (limit : Option LimitKind) (more : Option (ℕ × LimitKind)) → then_passed n limit more ≡ None → (limit ≡ None) × (more ≡ None)
+then_none n None more e = (refl, e)
+then_none n (Some kind) more e = absurd cc
+
+few_from : (written : List ℕ) (s : Scope) (count : ℕ) (ls : List Numbered) → Below 401 ls → first_passed written s count (filter is_within ls) ≡ None → AreFew s ls
+few_from written s count [] b e = tt
+few_from written s count (l ∷ ls) b e =
+    let near : nat_le l.number 400 ≡ true = grind (arith, nat_tests, b.0) in
+    let behind = scope_after s l in
+    let so_far = count + references written s l.line in
+    let more = first_passed written behind so_far (filter is_within ls) in
+    let e2 : then_passed l.number (limits_at l.line behind so_far) more ≡ None = subst (λ (v : Bool). first_passed written s count (if v then l ∷ filter is_within ls else filter is_within ls) ≡ None) near e in
+    let t = then_none l.number (limits_at l.line behind so_far) more e2 in
+    let k = keeps l.line behind so_far t.0 in
+    (omega (arith, b.0), k.arrays, k.loops, few_from written behind so_far ls b.1 t.1)
+
+abbrev past_lines : Bool → Option (ℕ × LimitKind)
+past_lines b = if b then Some (401, Lines) else None
+
+short_of : (count : ℕ) → lines_limit count ≡ None → count ≤ 400
+short_of count e = known (nat_lt 400 count) (λ h. absurd (absent (subst (λ (v : Bool). past_lines v ≡ None) h e))) (λ h. grind (arith, nat_tests, h))
+
+-- a text that passes no limit
+pub few : (ls : List (List ℕ)) → first_limit (length ls) (numbered_from 1 ls) ≡ None → AreFew empty (numbered_from 1 ls)
+few ls e =
+    let all = numbered_from 1 ls in
+    let a = either_none (first_passed (targets empty all) empty 0 (filter is_within all)) (lines_limit (length ls)) e in
+    let short : length ls ≤ 400 = short_of (length ls) a.1 in
+    few_from (targets empty all) empty 0 all (below 1 401 ls (omega (arith, short))) a.0

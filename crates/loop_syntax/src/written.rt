@@ -1,0 +1,104 @@
+// Which arrays a text writes.
+ghost use Rattle.std.specs.Prelude.{◌≡◌, ◌≤◌, ◌^◌, ℕ, ◌==◌, ◌||◌, ◌+◌, min, [], ◌∷◌, length, IfOk};
+ghost use Rattle.std.specs.List.{list_any};
+ghost use Rattle.text_base.specs.Lines.{lines};
+ghost use Rattle.loop_syntax.specs.Numbered.{numbered};
+ghost use Rattle.loop_syntax.specs.Scope.{empty};
+ghost use Rattle.loop_syntax.specs.Counts.{target, targets, reads, data_arrays, is_written};
+ghost use Rattle.loop_syntax.specs.Flags.{is_flagged, AreFlagged, flagged};
+
+use crate::numbered::NumberedLines;
+use crate::resolve::number_of;
+use crate::scope::Scope;
+use loop_lines::line::Line;
+use loop_lines::tree::{ArrayName, NamedExpr};
+use std::alloc::Global;
+use wave_base::types::Memory;
+
+fn is_flagged(flags: &[bool], number: u32) -> bool
+    ensures { result ≡ is_flagged flags.now number }
+{
+    match flags.get(number as usize) {
+        Some(flag) => *flag,
+        None => false,
+    }
+}
+
+/// Flags one number more.
+fn flag(flags: &mut Vec<bool>, number: u32) -> Result<(), Memory>
+    ensures { IfOk result (λ _. (k : ℕ) → is_flagged flags.new.items k ≡ (k == number || is_flagged flags.old.items k)) }
+{
+    let number = number as usize;
+    while flags.len() <= number {
+        flags.push(false)?;
+    }
+    flags[number] = true;
+    Ok(())
+}
+
+fn flag_target(flags: &mut Vec<bool>, scope: &Scope, line: &Line) -> Result<(), Memory>
+    ensures { IfOk result (λ _. (k : ℕ) → is_flagged flags.new.items k ≡ (is_written (target scope.now line.now) k || is_flagged flags.old.items k)) }
+{
+    match line {
+        Line::Set(array, _, _) => flag(flags, number_of(scope.use_of(array))),
+        _ => Ok(()),
+    }
+}
+
+/// A flag for each array number: whether some line of the text writes the array. It goes once over
+/// the text.
+pub fn written_arrays(alloc: Global, bytes: &[u8]) -> Result<Vec<bool>, Memory>
+    requires { length bytes.now ≤ 2 ^ 28 }
+    ensures { IfOk result (λ flags. AreFlagged flags.items (targets empty (numbered (lines bytes.now)))) }
+{
+    let mut scope = Scope::new(alloc);
+    let mut flags = Vec::new(alloc);
+    let mut left = NumberedLines::of(bytes);
+    while let Some(next) = left.next(alloc)? {
+        flag_target(&mut flags, &scope, &next.line)?;
+        scope.pass(next.number, &next.line)?;
+    }
+    Ok(flags)
+}
+
+/// The references so far and that to an array, counted up to 17.
+fn behind_array(flags: &[bool], scope: &Scope, array: &ArrayName, before: u32) -> u32
+    requires { before ≤ 17 }
+    ensures { result ≡ min 17 (before + flagged flags.now scope.now (array.now ∷ [])) }
+{
+    let is_reference = is_flagged(flags, number_of(scope.use_of(array)));
+    if is_reference && before < 17 {
+        before + 1
+    } else {
+        before
+    }
+}
+
+/// The references so far and those that an expression reads, counted up to 17.
+fn behind_value(flags: &[bool], scope: &Scope, value: &NamedExpr, before: u32) -> u32
+    requires { before ≤ 17 }
+    ensures { result ≡ min 17 (before + flagged flags.now scope.now (reads value.now)) }
+{
+    match value {
+        NamedExpr::Lit(_) => before,
+        NamedExpr::Read(array, _) => behind_array(flags, scope, array, before),
+        NamedExpr::Op(_, left, right) => {
+            let left = behind_value(flags, scope, left.get(), before);
+            behind_value(flags, scope, right.get(), left)
+        }
+    }
+}
+
+/// The references to written arrays up to the end of a line, counted up to 17, from those before it.
+pub fn behind_line(flags: &[bool], scope: &Scope, line: &Line, before: u32) -> u32
+    requires { before ≤ 17 }
+    ensures { result ≡ min 17 (before + flagged flags.now scope.now (data_arrays line.now)) }
+{
+    match line {
+        Line::Set(array, _, value) => {
+            let reads = behind_value(flags, scope, value, before);
+            behind_array(flags, scope, array, reads)
+        }
+        _ => before,
+    }
+}
