@@ -11,7 +11,8 @@ use Rattle.loop_syntax.specs.Scope.{Scope, empty, scope_after}
 use Rattle.loop_syntax.specs.Resolved.{declaration, property, mark, outer}
 use Rattle.loop_syntax.specs.Nesting.{Mark, Ends, marks}
 use Rattle.loop_syntax.specs.Stages.{Stage, Above, Behind, stage_after, AreNested, AreFew}
-use Rattle.loop_syntax.specs.Bodies.{stage_of, outer_of, marks_of, Follows, Goes}
+use Rattle.loop_syntax.specs.Numbered.{Follows}
+use Rattle.loop_syntax.specs.Bodies.{stage_of, outer_of, marks_of, Joins, Goes}
 use Rattle.loop_syntax.specs.Gathering.{Grows, IsMade}
 use Rattle.loop_syntax.specs.TextNest.{gathered, declarations, properties, outer_loops, body_marks, IsNestOf}
 use Rattle.loop_syntax.proofs.StageLaws.{nested_next}
@@ -58,7 +59,7 @@ grown new old here more total is h = ap (λ l. l ++ more) is ∙ append_assoc ol
 pub built_step : (all : List Numbered) (s : Scope) (g new : Gathered) (l : Numbered) (ls : List Numbered) → Built all s g (l ∷ ls) → Grows s l g new → Built all (scope_after s l) new ls
 built_step all s g new l ls b grows =
     let next = nested_next (stage_of g.body) l ls b.nested in
-    let goes : Follows s l.number l.line g.body new.body = grows.body next.0 next.1 in
+    let goes : Joins s l.number l.line g.body new.body = grows.body next.0 next.1 in
     let here : next.0 ≡ stage_of new.body = some_is next.0 (stage_of new.body) (sym next.1 ∙ goes.stage) in
     record {
       decls = grown new.decls g.decls (gives_decl s l) (gathered gives_decl (scope_after s l) ls) (declarations all) grows.decls b.decls;
@@ -69,6 +70,12 @@ built_step all s g new l ls b grows =
       few = b.few.3;
       kept = kept_behind s l.number l.line b.few.0 b.few.1 b.kept;
     }
+
+pub built_more : (all : List Numbered) (s behind : Scope) (g new : Gathered) (before after : List Numbered) (o : Option Numbered) (l : Numbered)
+    → Follows before o after → o ≡ Some l → Built all s g before → Grows s l g new → behind ≡ scope_after s l → Built all behind new after
+built_more all s behind g new before after o l follows is b grows moved =
+    let here : before ≡ l ∷ after = subst (λ (o : Option Numbered). Follows before o after) is follows in
+    subst (λ (t : Scope). Built all t new after) (sym moved) (built_step all s g new l after (subst (Built all s g) here b) grows)
 
 -- no line is left
 pub built_stage : (all : List Numbered) (s : Scope) (g : Gathered) → Built all s g [] → stage_of g.body ≡ Behind

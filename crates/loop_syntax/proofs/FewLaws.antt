@@ -1,8 +1,9 @@
 -- Lines with rising numbers, and lines that pass no limit.
-use Rattle.std.proofs.Common.{◌≡◌, ℕ, zero, suc, ◌+◌, ◌*◌, ◌≤◌, ◌<◌, Bool, true, false, nat_lt, nat_le, if◌then◌else◌, List, [], ◌∷◌, length, Option, Some, None, refl, sym, ap, subst, ◌∙◌, arith}
+use Rattle.std.proofs.Common.{◌≡◌, ℕ, zero, suc, ◌+◌, ◌*◌, ◌≤◌, ◌<◌, Bool, true, false, min, nat_lt, nat_le, if◌then◌else◌, List, [], ◌∷◌, length, Option, Some, None, refl, sym, ap, subst, ◌∙◌, arith}
 use Rattle.std.specs.List.{filter, onto_first}
 use Rattle.std.proofs.lemmas.Bool.Decides.{nat_tests}
-use Rattle.text_base.specs.Lines.{lines}
+use Rattle.text_base.specs.Lines.{lines, first_line, after_line}
+use Rattle.text_base.proofs.LineLaws.{lines_first}
 use Rattle.loop_lines.specs.declared.line.Line.{Line}
 use Rattle.loop_lines.specs.Fitting.{text_line}
 use Rattle.loop_lines.specs.Reading.{or_else}
@@ -10,10 +11,11 @@ use Rattle.loop_lines.specs.Words.{either}
 use Rattle.loop_syntax.specs.declared.numbered.Numbered.{Numbered}
 use Rattle.loop_syntax.specs.declared.refusal.LimitKind.{LimitKind}
 use Rattle.loop_syntax.specs.declared.refusal.LimitKind.TheVariants.{Lines, Constant, Arrays, Depth, References}
-use Rattle.loop_syntax.specs.Numbered.{worded, before, numbered_from}
-use Rattle.loop_syntax.specs.Scope.{Scope, scope_after, variables}
-use Rattle.loop_syntax.specs.Counts.{passed, constant_limit, scope_limit, limits_at, references, first_passed, is_within, lines_limit, first_limit, targets}
-use Rattle.loop_syntax.specs.Scope.{empty}
+use Rattle.loop_syntax.specs.Numbered.{worded, before, numbered_from, Follows}
+use Rattle.loop_syntax.specs.Scope.{Scope, empty, scope_after, use_of, variables}
+use Rattle.loop_syntax.specs.Resolved.{number_of}
+use Rattle.loop_syntax.specs.Counts.{is_written, data_arrays, passed, constant_limit, scope_limit, limits_at, references, first_passed, is_within, lines_limit, first_limit, targets}
+use Rattle.loop_syntax.specs.Flags.{is_flagged, AreFlagged, flagged}
 use Rattle.loop_syntax.specs.Stages.{AreFew}
 
 -- numbers from n on, each above those before it
@@ -56,7 +58,7 @@ below n m (l ∷ ls) h = below_before n m (worded (text_line l)) (numbered_from 
 
 -- ---- limits
 
-either_none : {A : Type 0} (a b : Option A) → either a b ≡ None → (a ≡ None) × (b ≡ None)
+pub either_none : {A : Type 0} (a b : Option A) → either a b ≡ None → (a ≡ None) × (b ≡ None)
 either_none None b e = (refl, e)
 either_none (Some x) b e = absurd cc
 
@@ -120,3 +122,90 @@ few ls e =
     let a = either_none (first_passed (targets empty all) empty 0 (filter is_within all)) (lines_limit (length ls)) e in
     let short : length ls ≤ 400 = short_of (length ls) a.1 in
     few_from (targets empty all) empty 0 all (below 1 401 ls (omega (arith, short))) a.0
+
+-- ---- the lines of a text, counted
+
+pub a_line_less : (count total : ℕ) (s after : List ℕ) → 0 < length s → after ≡ after_line s → count + length (lines s) ≡ total → count + 1 + length (lines after) ≡ total
+a_line_less count total [] after some is h = absurd (omega (arith, some))
+a_line_less count total (b ∷ s) after some is h =
+    let first : length (lines (b ∷ s)) ≡ length (first_line (b ∷ s) ∷ lines (after_line (b ∷ s))) = ap length (lines_first b s) in
+    let rest : length (lines after) ≡ length (lines (after_line (b ∷ s))) = ap (λ (l : List ℕ). length (lines l)) is in
+    omega (arith, first, rest, h)
+
+pub a_line : (limit count total : ℕ) (s : List ℕ) → 0 < length s → count ≡ limit → count + length (lines s) ≡ total → true ≡ nat_lt limit total
+a_line limit count total s some is h =
+    let more = a_line_less count total s (after_line s) some refl h in
+    grind (arith, nat_tests, more)
+
+-- ---- the first limit, line by line
+
+-- a line behind line 400 comes next
+pub past : (n : ℕ) (before after : List Numbered) (o : Option Numbered) (l : Numbered) → Rise n before → Follows before o after → o ≡ Some l → 400 < l.number → filter is_within before ≡ []
+past n before after o l rise follows is far =
+    let here : before ≡ l ∷ after = subst (λ (o : Option Numbered). Follows before o after) is follows in
+    let r : Rise n (l ∷ after) = subst (Rise n) here rise in
+    ap (filter is_within) here ∙ none_within l.number (l ∷ after) far (omega arith, r.1)
+
+filter_same : {X : Type 0} (p q : X → Bool) → ((x : X) → p x ≡ q x) → (xs : List X) → filter p xs ≡ filter q xs
+filter_same p q same [] = refl
+filter_same p q same (x ∷ xs) = rw (same x, filter_same p q same xs) refl
+
+same_count : (flags : List Bool) (written : List ℕ) (s : Scope) (l : Line) → AreFlagged flags written → flagged flags s (data_arrays l) ≡ references written s l
+same_count flags written s l are =
+    ap length (filter_same (λ a. is_flagged flags (number_of (use_of s a))) (λ a. is_written written (number_of (use_of s a))) (λ a. are (number_of (use_of s a))) (data_arrays l))
+
+-- counting up to 17 is enough
+capped : (n : ℕ) → nat_lt 16 (min 17 n) ≡ nat_lt 16 n
+capped n = grind (arith, nat_tests)
+
+capped_limit : (l : Line) (s : Scope) (n : ℕ) → limits_at l s (min 17 n) ≡ limits_at l s n
+capped_limit l s n =
+    ap (λ (b : Bool). either (constant_limit l) (either (passed (nat_lt 64 s.arrays) Arrays) (either (passed (nat_lt 6 (length (variables s.blocks))) Depth) (passed b References)))) (capped n)
+
+-- what a step of the count says
+pub record Stepped (flags : List Bool) (s : Scope) (count : ℕ) (l : Numbered) (behind : Scope) (counted : ℕ) (limit : Option LimitKind) : Type 0 where
+  pub limited : limit ≡ limits_at l.line (scope_after s l) counted
+  pub moved : behind ≡ scope_after s l
+  pub counts : counted ≡ min 17 (count + flagged flags s (data_arrays l.line))
+
+limit_is : (flags : List Bool) (written : List ℕ) (s behind : Scope) (count counted : ℕ) (l : Numbered) (limit : Option LimitKind) → AreFlagged flags written → Stepped flags s count l behind counted limit
+    → limit ≡ limits_at l.line (scope_after s l) (count + references written s l.line)
+limit_is flags written s behind count counted l limit are step =
+    let same = same_count flags written s l.line are in
+    step.limited ∙ ap (limits_at l.line (scope_after s l)) step.counts ∙ capped_limit l.line (scope_after s l) (count + flagged flags s (data_arrays l.line)) ∙ ap (λ (r : ℕ). limits_at l.line (scope_after s l) (count + r)) same
+
+first_is : (written : List ℕ) (s : Scope) (count : ℕ) (l : Numbered) (after : List Numbered) → l.number ≤ 400
+    → first_passed written s count (filter is_within (l ∷ after)) ≡ then_passed l.number (limits_at l.line (scope_after s l) (count + references written s l.line)) (first_passed written (scope_after s l) (count + references written s l.line) (filter is_within after))
+first_is written s count l after near =
+    let within : nat_le l.number 400 ≡ true = grind (arith, nat_tests, near) in
+    rw within refl
+
+pub passes : (flags : List Bool) (written : List ℕ) (s behind : Scope) (count counted : ℕ) (before after : List Numbered) (o : Option Numbered) (l : Numbered) (limit : Option LimitKind) (kind : LimitKind) (total : Option (ℕ × LimitKind))
+    → AreFlagged flags written → Follows before o after → o ≡ Some l → l.number ≤ 400 → Stepped flags s count l behind counted limit → limit ≡ Some kind
+    → first_passed written s count (filter is_within before) ≡ total → Some (l.number, kind) ≡ total
+passes flags written s behind count counted before after o l limit kind total are follows is near step some h =
+    let here : before ≡ l ∷ after = subst (λ (o : Option Numbered). Follows before o after) is follows in
+    let more = first_passed written (scope_after s l) (count + references written s l.line) (filter is_within after) in
+    let found : Some kind ≡ limits_at l.line (scope_after s l) (count + references written s l.line) = sym some ∙ limit_is flags written s behind count counted l limit are step in
+    ap (λ (x : Option LimitKind). then_passed l.number x more) found ∙ sym (first_is written s count l after near) ∙ ap (λ (x : List Numbered). first_passed written s count (filter is_within x)) (sym here) ∙ h
+
+pub kept_on : (flags : List Bool) (s behind : Scope) (count counted : ℕ) (l : Numbered) (limit : Option LimitKind) → Stepped flags s count l behind counted limit → limit ≡ None → Keeps behind counted
+kept_on flags s behind count counted l limit step none =
+    subst (λ (t : Scope). Keeps t counted) (sym step.moved) (keeps l.line (scope_after s l) counted (sym step.limited ∙ none))
+
+exact : (m n : ℕ) → m ≡ min 17 n → m ≤ 16 → n ≡ m
+exact m n is few = omega (arith, is, few)
+
+pub goes_on : (flags : List Bool) (written : List ℕ) (s behind : Scope) (count counted : ℕ) (before after : List Numbered) (o : Option Numbered) (l : Numbered) (limit : Option LimitKind) (total : Option (ℕ × LimitKind))
+    → AreFlagged flags written → Follows before o after → o ≡ Some l → l.number ≤ 400 → Stepped flags s count l behind counted limit → limit ≡ None
+    → first_passed written s count (filter is_within before) ≡ total → first_passed written behind counted (filter is_within after) ≡ total
+goes_on flags written s behind count counted before after o l limit total are follows is near step none h =
+    let here : before ≡ l ∷ after = subst (λ (o : Option Numbered). Follows before o after) is follows in
+    let count2 = count + references written s l.line in
+    let more = first_passed written (scope_after s l) count2 (filter is_within after) in
+    let found : None ≡ limits_at l.line (scope_after s l) count2 = sym none ∙ limit_is flags written s behind count counted l limit are step in
+    let k = kept_on flags s behind count counted l limit step none in
+    let counts : count2 ≡ counted = ap (λ (r : ℕ). count + r) (sym (same_count flags written s l.line are)) ∙ exact counted (count + flagged flags s (data_arrays l.line)) step.counts k.references in
+    ap (λ (t : Scope). first_passed written t counted (filter is_within after)) step.moved
+    ∙ ap (λ (c : ℕ). first_passed written (scope_after s l) c (filter is_within after)) (sym counts)
+    ∙ ap (λ (x : Option LimitKind). then_passed l.number x more) found ∙ sym (first_is written s count l after near) ∙ ap (λ (x : List Numbered). first_passed written s count (filter is_within x)) (sym here) ∙ h

@@ -9,3 +9,4 @@ pub mod StageLaws
 pub mod FewLaws
 pub mod NarrowLaws
 pub mod BuildLaws
+pub mod ReadLaws

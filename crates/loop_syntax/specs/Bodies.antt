@@ -33,11 +33,11 @@ pub record Adds (o : OpenLoop) (next : Option Stage) (m : Mark) (new : Body) : T
   pub marks : marks_of new ≡ so_far o.around o.items ++ m ∷ []
 
 -- a line comes behind those of a body
-pub record Follows (s : Scope) (n : ℕ) (l : Line) (old new : Body) : Type 0 where
+pub record Joins (s : Scope) (n : ℕ) (l : Line) (old new : Body) : Type 0 where
   pub stage : stage_after (stage_of old) l ≡ Some (stage_of new)
   pub outer : outer_of new ≡ outer_of old ++ outer n l
   pub marks : marks_of new ≡ marks_of old ++ mark s n l
 
 -- it does where it can stand there
 abbrev pub Goes : Scope → ℕ → Line → Body → Body → Type 0
-Goes s n l old new = (next : Stage) → stage_after (stage_of old) l ≡ Some next → Follows s n l old new
+Goes s n l old new = (next : Stage) → stage_after (stage_of old) l ≡ Some next → Joins s n l old new

@@ -1,8 +1,8 @@
 // The nest of a text, gathered line by line.
-ghost use Rattle.std.specs.Prelude.{◌≡◌, ◌≤◌, ◌<◌, ◌^◌, ◌++◌, [], ◌∷◌, length, IfOk};
+ghost use Rattle.std.specs.Prelude.{◌≡◌, ◌≤◌, ◌<◌, ◌+◌, ◌^◌, ◌++◌, [], ◌∷◌, length, IfOk};
 ghost use Rattle.text_base.specs.Lines.{lines};
 ghost use Rattle.loop_syntax.specs.Numbered.{numbered};
-ghost use Rattle.loop_syntax.specs.Scope.{empty};
+ghost use Rattle.loop_syntax.specs.Scope.{empty, scope_after};
 ghost use Rattle.loop_syntax.specs.Resolved.{declaration, property};
 ghost use Rattle.loop_syntax.specs.Narrow.{IsNarrow};
 ghost use Rattle.loop_syntax.specs.Stages.{Above, Behind, AreNested, AreFew};
@@ -130,6 +130,24 @@ impl Gathered {
     }
 }
 
+/// What a line adds, with the scope behind it.
+fn step(
+    alloc: Global,
+    scope: &mut Scope,
+    so_far: Gathered,
+    next: Numbered,
+) -> Result<Gathered, Memory>
+    requires narrow { IsNarrow scope.old }
+    requires small { next.number < 65536 }
+    requires few { scope.old.arrays + 4 < 2 ^ 32 }
+    ensures grows { IfOk result (λ g. Grows scope.old next so_far g) }
+    ensures scope { IfOk result (λ _. scope.new ≡ scope_after scope.old next) }
+{
+    let so_far = so_far.add(alloc, scope, &next)?;
+    scope.pass(next.number, &next.line)?;
+    Ok(so_far)
+}
+
 /// The nest of a text whose lines fit, and which passes no limit. It goes once over the text.
 pub fn build(alloc: Global, bytes: &[u8]) -> Result<Nest, Memory>
     requires short { length bytes.now ≤ 2 ^ 28 }
@@ -141,8 +159,7 @@ pub fn build(alloc: Global, bytes: &[u8]) -> Result<Nest, Memory>
     let mut so_far = Gathered::new(alloc);
     let mut left = NumberedLines::of(bytes);
     while let Some(next) = left.next(alloc)? {
-        so_far = so_far.add(alloc, &scope, &next)?;
-        scope.pass(next.number, &next.line)?;
+        so_far = step(alloc, &mut scope, so_far, next)?;
     }
     Ok(so_far.nest())
 }

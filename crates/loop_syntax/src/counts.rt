@@ -1,14 +1,14 @@
 // The counts of a nest, each with the line at which it passes its limit.
-ghost use Rattle.std.specs.Prelude.{◌≡◌, ◌≤◌, ◌^◌, ℕ, List, nat_lt, length, IfOk};
+ghost use Rattle.std.specs.Prelude.{◌≡◌, ◌≤◌, ◌<◌, ◌+◌, ◌^◌, min, ℕ, List, nat_lt, length, IfOk};
 ghost use Rattle.std.specs.List.{filter};
 ghost use Rattle.text_base.specs.Lines.{lines};
 ghost use Rattle.loop_syntax.specs.Numbered.{numbered};
-ghost use Rattle.loop_syntax.specs.Scope.{empty};
-ghost use Rattle.loop_syntax.specs.Counts.{scope_limit, limits_at, is_within, first_passed, lines_limit, first_limit};
-ghost use Rattle.loop_syntax.specs.Flags.{AreFlagged};
+ghost use Rattle.loop_syntax.specs.Scope.{empty, scope_after};
+ghost use Rattle.loop_syntax.specs.Counts.{data_arrays, scope_limit, limits_at, is_within, first_passed, lines_limit, first_limit};
+ghost use Rattle.loop_syntax.specs.Flags.{AreFlagged, flagged};
 
 use crate::constants::line_has_constants;
-use crate::numbered::NumberedLines;
+use crate::numbered::{Numbered, NumberedLines};
 use crate::refusal::LimitKind;
 use crate::scope::Scope;
 use crate::written::{behind_line, written_arrays};
@@ -43,6 +43,24 @@ fn limit_at(line: &Line, behind: &Scope, references: u32) -> Option<LimitKind>
     }
 }
 
+/// The first limit that a line passes; the scope goes past it, and its references are counted.
+fn step(
+    flags: &[bool],
+    scope: &mut Scope,
+    references: &mut u32,
+    next: Numbered,
+) -> Result<Option<LimitKind>, Memory>
+    requires arrays { scope.old.arrays + 4 < 2 ^ 32 }
+    requires counted { references.old ≤ 17 }
+    ensures limit { IfOk result (λ limit. limit ≡ limits_at next.line (scope_after scope.old next) references.new) }
+    ensures scope { IfOk result (λ _. scope.new ≡ scope_after scope.old next) }
+    ensures counted { references.new ≡ min 17 (references.old + flagged flags.now scope.old (data_arrays next.line)) }
+{
+    *references = behind_line(flags, scope, &next.line, *references);
+    scope.pass(next.number, &next.line)?;
+    Ok(limit_at(&next.line, scope, *references))
+}
+
 /// The first of the lines up to line 400 that passes a limit, and which. Arrays that are written are
 /// flagged.
 fn first_passed(
@@ -60,10 +78,10 @@ fn first_passed(
         if next.number > 400 {
             return Ok(None);
         }
-        references = behind_line(flags, &scope, &next.line, references);
-        scope.pass(next.number, &next.line)?;
-        if let Some(kind) = limit_at(&next.line, &scope, references) {
-            return Ok(Some((next.number, kind)));
+        let number = next.number;
+        match step(flags, &mut scope, &mut references, next)? {
+            Some(kind) => return Ok(Some((number, kind))),
+            None => {}
         }
     }
     Ok(None)

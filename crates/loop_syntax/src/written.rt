@@ -1,13 +1,13 @@
 // Which arrays a text writes.
-ghost use Rattle.std.specs.Prelude.{◌≡◌, ◌≤◌, ◌^◌, ℕ, ◌==◌, ◌||◌, ◌+◌, min, [], ◌∷◌, length, IfOk};
+ghost use Rattle.std.specs.Prelude.{◌≡◌, ◌≤◌, ◌<◌, ◌^◌, ℕ, ◌==◌, ◌||◌, ◌+◌, min, [], ◌∷◌, length, IfOk};
 ghost use Rattle.std.specs.List.{list_any};
 ghost use Rattle.text_base.specs.Lines.{lines};
 ghost use Rattle.loop_syntax.specs.Numbered.{numbered};
-ghost use Rattle.loop_syntax.specs.Scope.{empty};
+ghost use Rattle.loop_syntax.specs.Scope.{empty, scope_after};
 ghost use Rattle.loop_syntax.specs.Counts.{target, targets, reads, data_arrays, is_written};
 ghost use Rattle.loop_syntax.specs.Flags.{is_flagged, AreFlagged, flagged};
 
-use crate::numbered::NumberedLines;
+use crate::numbered::{Numbered, NumberedLines};
 use crate::resolve::number_of;
 use crate::scope::Scope;
 use loop_lines::line::Line;
@@ -45,6 +45,17 @@ fn flag_target(flags: &mut Vec<bool>, scope: &Scope, line: &Line) -> Result<(), 
     }
 }
 
+/// Flags what a line writes, and goes past it.
+fn step(flags: &mut Vec<bool>, scope: &mut Scope, next: &Numbered) -> Result<(), Memory>
+    requires { scope.old.arrays + 4 < 2 ^ 32 }
+    ensures flags { IfOk result (λ _. (k : ℕ) → is_flagged flags.new.items k ≡ (is_written (target scope.old next.now.line) k || is_flagged flags.old.items k)) }
+    ensures scope { IfOk result (λ _. scope.new ≡ scope_after scope.old next.now) }
+    ensures few { IfOk result (λ _. scope.new.arrays ≤ scope.old.arrays + 4) }
+{
+    flag_target(flags, scope, &next.line)?;
+    scope.pass(next.number, &next.line)
+}
+
 /// A flag for each array number: whether some line of the text writes the array. It goes once over
 /// the text.
 pub fn written_arrays(alloc: Global, bytes: &[u8]) -> Result<Vec<bool>, Memory>
@@ -55,8 +66,7 @@ pub fn written_arrays(alloc: Global, bytes: &[u8]) -> Result<Vec<bool>, Memory>
     let mut flags = Vec::new(alloc);
     let mut left = NumberedLines::of(bytes);
     while let Some(next) = left.next(alloc)? {
-        flag_target(&mut flags, &scope, &next.line)?;
-        scope.pass(next.number, &next.line)?;
+        step(&mut flags, &mut scope, &next)?;
     }
     Ok(flags)
 }
