@@ -10,3 +10,5 @@ pub mod FewLaws
 pub mod NarrowLaws
 pub mod BuildLaws
 pub mod ReadLaws
+pub mod OneNest
+pub mod ShallowLaws

@@ -6,6 +6,7 @@ pub mod build;
 pub mod constants;
 pub mod counts;
 pub mod items;
+pub mod laws;
 pub mod names;
 pub mod numbered;
 pub mod print;

@@ -1,6 +1,7 @@
 // A text's nest, or why it has none.
 ghost use Rattle.std.specs.Prelude.{◌≡◌, ◌≤◌, ◌^◌, None, length, IfOk};
 ghost use Rattle.text_base.specs.Lines.{lines};
+ghost use Rattle.loop_core.specs.Depth.{body_depth};
 ghost use Rattle.loop_syntax.specs.TextNest.{refusal, Answers};
 
 use crate::build::build;
@@ -35,7 +36,9 @@ fn refusal(alloc: Global, bytes: &[u8]) -> Result<Option<LoopRefusal>, Memory>
 /// those of the least line that is wrong: `Text` goes first, then `Name`, then `Limit`.
 pub fn read(alloc: Global, bytes: &[u8]) -> Result<Nest, LoopRefusal>
     requires { length bytes.now ≤ 2 ^ 28 }
-    ensures { Answers (lines bytes.now) result }
+    ensures answer { Answers (lines bytes.now) result }
+    // At most five loops stand in one another inside the outer one.
+    ensures shallow { IfOk result (λ nest. body_depth nest.body ≤ 5) }
 {
     match refusal(alloc, bytes)? {
         Some(why) => Err(why),
