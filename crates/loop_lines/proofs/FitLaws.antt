@@ -8,9 +8,9 @@ use Rattle.loop_lines.specs.declared.place.Place.{Place}
 use Rattle.loop_lines.specs.declared.place.Place.TheVariants.{Heading, Inside, Behind}
 use Rattle.loop_lines.specs.declared.refusal.LineRefusal.{LineRefusal}
 use Rattle.loop_lines.specs.declared.refusal.LineRefusal.TheVariants as refusals
-use Rattle.loop_lines.specs.Reading.{◌>>=◌, Fails}
+use Rattle.loop_lines.specs.Reading.{Fails}
 use Rattle.loop_lines.specs.Fitting.{text_line, heading_after, body_after, place_after, moved, next_place, ending, misfit, open_blocks}
-use Rattle.loop_lines.proofs.TermLaws.{bind_some, some_is}
+use Rattle.loop_lines.proofs.TermLaws.{bind_some}
 
 pub goes_on : (s : List ℕ) (p q : Place) (n : ℕ) (total : Option ℕ) → 0 < length s → next_place p (first_line s) ≡ Some q → misfit p n (lines s) ≡ total → misfit q (n + 1) (lines (after_line s)) ≡ total
 goes_on [] p q n total some e h = absurd (omega arith)

@@ -4,3 +4,4 @@ pub mod WordLaws
 pub mod TokenLaws
 pub mod LineLaws
 pub mod FitLaws
+pub mod PlainLaws

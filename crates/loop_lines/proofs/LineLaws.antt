@@ -1,5 +1,5 @@
 -- What is read is a line of the grammar, and a line of the grammar is read.
-use Rattle.std.proofs.Common.{◌≡◌, ℕ, zero, suc, pos, ℤ, ◌*◌, ◌≤◌, ◌+◌, Bool, true, false, List, [], ◌∷◌, ◌++◌, length, Option, Some, None, refl, sym, ap, subst, ◌∙◌, append_assoc, arith}
+use Rattle.std.proofs.Common.{◌≡◌, ℕ, ℤ, ◌*◌, true, List, [], ◌∷◌, ◌++◌, length, Option, Some, refl, sym, ap, subst, ◌∙◌, arith}
 use Rattle.std.specs.Prelude.{Result, Ok, Err, IfOk}
 use Rattle.std.proofs.lemmas.List.{length-append, append-nil}
 use Rattle.loop_core.specs.declared.decl.Form.{Form}
@@ -16,8 +16,6 @@ use Rattle.loop_lines.specs.declared.token.Keyword.TheVariants as keys
 use Rattle.loop_lines.specs.declared.token.Token.{Token}
 use Rattle.loop_lines.specs.declared.token.Token.TheVariants as tokens
 use Rattle.loop_lines.specs.declared.tree.ArrayName.{ArrayName}
-use Rattle.loop_lines.specs.declared.tree.ArrayName.TheVariants as arrays
-use Rattle.loop_lines.specs.declared.tree.NamedAtom.{NamedAtom}
 use Rattle.loop_lines.specs.declared.tree.NamedAtom.TheVariants as atoms
 use Rattle.loop_lines.specs.declared.tree.NamedTerm.{NamedTerm}
 use Rattle.loop_lines.specs.declared.tree.NamedExpr.{NamedExpr}
@@ -25,12 +23,12 @@ use Rattle.loop_lines.specs.declared.line.NamedProp.{NamedProp}
 use Rattle.loop_lines.specs.declared.line.NamedProp.TheVariants as props
 use Rattle.loop_lines.specs.declared.line.Line.{Line}
 use Rattle.loop_lines.specs.declared.line.Line.TheVariants as lines
-use Rattle.loop_lines.specs.Grammar.{Numeral, Shift, Simple, Written, numeral, shift, array, term, meaning}
-use Rattle.loop_lines.specs.Exprs.{IsExpr, Sum, sum, sum_of}
+use Rattle.loop_lines.specs.Grammar.{Numeral, Written, array, term, meaning}
+use Rattle.loop_lines.specs.Exprs.{Sum, sum, sum_of}
 use Rattle.loop_lines.specs.Lines.{Bound, bound, WrittenLine, form, size, source, rel, by_pair, line, line_of, IsLine}
-use Rattle.loop_lines.specs.Reading.{◌>>=◌, Gives, array_at, entry_at, close_at, zero_at, negated_at, constant, shifted_at, term_at}
+use Rattle.loop_lines.specs.Reading.{◌>>=◌, Gives, array_at, entry_at, close_at, zero_at, negated_at, constant}
 use Rattle.loop_lines.specs.LineReading.{end_at, name_at, in_at, of_at, by_at, to_at, assign_at, rel_at, form_at, one_at, longer_at, size_at, source_at, matrix_at, index_at, last_source_at, vector_at, alone_at, pair_at, by_pair_at, diagonal_at, bound_at, last_bound_at, range_at, loop_at, free_term_at, last_term_at, terms_at, for_at, when_at, value_at, assigned_at, set_at, last_at, prop_at, form_line_at, line_at}
-use Rattle.loop_lines.proofs.TermLaws.{Wrote, bind_some, some_is, numeral_sound, negated_sound, negated_again, shifted_sound, array_sound, entry_sound, close_sound, term_sound, term_again, ends_term, shifted_again, zero_again, array_again}
+use Rattle.loop_lines.proofs.TermLaws.{Wrote, bind_some, some_is, negated_sound, negated_again, shifted_sound, array_sound, entry_sound, close_sound, term_sound, term_again, ends_term, shifted_again, zero_again, array_again}
 use Rattle.loop_lines.proofs.ExprLaws.{whole_sound, whole_again, term_some}
 
 bind2 : {A B C : Type 0} (o : Option A) (f : A → Option B) (h : A → B → C) (y : C) → (o >>= λ a. f a >>= λ b. Some (h a b)) ≡ Some y → (a : A) × (b : B) × (o ≡ Some a) × (f a ≡ Some b) × (h a b ≡ y)

@@ -1,10 +1,8 @@
 -- A number that is capped at 64 bits tells whether the number fits 63.
-use Rattle.std.proofs.Common.{◌≡◌, ℕ, ◌^◌, ◌≤◌, ◌<◌, min, Bool, true, false, nat_lt, cond, List, Option, Some, None, refl, ap, arith}
+use Rattle.std.proofs.Common.{◌≡◌, ℕ, ◌^◌, Bool, true, false, nat_lt, Option, Some, None, refl, arith}
 use Rattle.std.proofs.lemmas.Bool.Decides.{nat_tests}
 use Rattle.std.specs.Option.{option_map}
 use Rattle.text_base.specs.Numbers.{capped}
-use Rattle.loop_lines.specs.declared.token.Token.{Token}
-use Rattle.loop_lines.specs.declared.token.Token.TheVariants as tokens
 use Rattle.loop_lines.specs.Words.{number}
 
 pub capped_number : (o : Option ℕ) → number (option_map capped o) ≡ number o

@@ -1,5 +1,5 @@
 -- The grammar of expressions: sums of products of factors, each grouped from the left.
-use Rattle.std.specs.Prelude.{◌≡◌, ℕ, pos, List, [], ◌∷◌, ◌++◌}
+use Rattle.std.specs.Prelude.{◌≡◌, pos, List, [], ◌∷◌, ◌++◌}
 use Rattle.loop_core.specs.declared.nest.Op.TheVariants as ops
 use Rattle.loop_lines.specs.declared.tree.NamedExpr.{NamedExpr}
 use Rattle.loop_lines.specs.declared.tree.NamedExpr.TheVariants as exprs

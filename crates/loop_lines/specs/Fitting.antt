@@ -1,5 +1,5 @@
 -- The lines of a loop file, and the least that doesn't fit.
-use Rattle.std.specs.Prelude.{◌≡◌, ℕ, zero, suc, ◌+◌, Bool, true, false, if◌then◌else◌, ◌==◌, nat_lt, length, List, [], ◌∷◌, Option, Some, None, Result, Ok, Err}
+use Rattle.std.specs.Prelude.{ℕ, zero, suc, ◌+◌, Bool, true, false, if◌then◌else◌, ◌==◌, nat_lt, length, List, [], ◌∷◌, Option, Some, None}
 use Rattle.text_base.specs.Lines.{trimmed}
 use Rattle.text_base.specs.Words.{after_blanks}
 use Rattle.loop_lines.specs.declared.line.Line.{Line}

@@ -8,3 +8,4 @@ pub mod TokenReading
 pub mod Lines
 pub mod LineReading
 pub mod Fitting
+pub mod Plain

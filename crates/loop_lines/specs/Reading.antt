@@ -1,5 +1,5 @@
 -- Reading from the left, with a bound on how deep brackets stand in one another.
-use Rattle.std.specs.Prelude.{◌≡◌, ℕ, zero, suc, ℤ, pos, neg_ℤ, List, [], ◌∷◌, Option, Some, None, Result, Ok, Err}
+use Rattle.std.specs.Prelude.{◌≡◌, ℕ, zero, suc, ℤ, pos, neg_ℤ, List, ◌∷◌, Option, Some, None, Result, Ok, Err}
 use Rattle.loop_lines.specs.declared.refusal.LineRefusal.{LineRefusal}
 use Rattle.loop_lines.specs.declared.refusal.LineRefusal.TheVariants as refusals
 use Rattle.loop_lines.specs.declared.token.Token.{Token}

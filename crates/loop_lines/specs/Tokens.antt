@@ -1,6 +1,5 @@
 -- The words and signs of a line.
-use Rattle.std.specs.Prelude.{◌≡◌, ℕ, Bool, true, false, if◌then◌else◌, ◌==◌, List, [], ◌∷◌, Option, Some, None}
-use Rattle.std.specs.Option.{option_map}
+use Rattle.std.specs.Prelude.{ℕ, if◌then◌else◌, ◌==◌, List, [], ◌∷◌, Option, Some, None}
 use Rattle.text_base.specs.Words.{is_blank}
 use Rattle.loop_core.specs.Names.{is_name_byte}
 use Rattle.loop_lines.specs.declared.token.Token.{Token}

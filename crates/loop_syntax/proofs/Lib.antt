@@ -12,3 +12,5 @@ pub mod BuildLaws
 pub mod ReadLaws
 pub mod OneNest
 pub mod ShallowLaws
+pub mod NameLaws
+pub mod ArrayLaws

@@ -1,13 +1,14 @@
 -- Texts whose bytes are all below 128, and the texts of numbers and names.
 use Rattle.std.proofs.Common.{◌≡◌, ℕ, zero, suc, ◌<◌, ◌/◌, ◌%◌, ◌==◌, Bool, true, false, ◌&&◌, if◌then◌else◌, List, [], ◌∷◌, ◌++◌, refl, subst, ◌∙◌, ℤ, pos, negsuc, nat_lt, nat_le, length, not, arith}
-use Rattle.std.specs.List.{list_all, list_any}
+use Rattle.std.specs.List.{list_all}
 use Rattle.std.specs.Str.{IsAscii}
 use Rattle.std.specs.Fmt.{decimal, digits_onto, digit_glyph, signed_decimal}
 use Rattle.std.proofs.DigitsParse.{digits_onto-nil}
 use Rattle.std.proofs.lemmas.List.Folds.{list_all-append}
 use Rattle.std.proofs.lemmas.Grind.{common_steps}
 use Rattle.std.proofs.lemmas.Str.Ascii.{IsAscii-nil, IsAscii-cons}
-use Rattle.loop_core.specs.Names.{is_name_byte, is_name, begins_with_letter, same_name, reserved}
+use Rattle.loop_core.specs.Names.{is_name_byte}
+use Rattle.loop_lines.specs.Plain.{is_plain}
 
 abbrev pub is_small : ℕ → Bool
 is_small byte = nat_lt byte 128
@@ -23,7 +24,7 @@ pub and_right : (a b : Bool) → (a && b) ≡ true → b ≡ true
 and_right true b h = h
 and_right false b h = cc
 
-and_both : (a b : Bool) → a ≡ true → b ≡ true → (a && b) ≡ true
+pub and_both : (a b : Bool) → a ≡ true → b ≡ true → (a && b) ≡ true
 and_both true b h k = k
 and_both false b h k = h
 
@@ -77,9 +78,5 @@ bytes_small [] h = word [] refl
 bytes_small (b ∷ bs) h =
     cons_small b bs (byte_small b (and_left (is_name_byte b) (list_all is_name_byte bs) h)) (bytes_small bs (and_right (is_name_byte b) (list_all is_name_byte bs) h))
 
-pub name_small : (name : List ℕ) → is_name name ≡ true → Small name
-name_small name h =
-    let short = nat_le (length name) 16 in
-    let free = not (list_any (same_name name) reserved) in
-    let all = list_all is_name_byte name in
-    bytes_small name (and_right (begins_with_letter name) all (and_left (begins_with_letter name && all) short (and_left (begins_with_letter name && all && short) free h)))
+pub name_small : (name : List ℕ) → is_plain name ≡ true → Small name
+name_small name h = bytes_small name h

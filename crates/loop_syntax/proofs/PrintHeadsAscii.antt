@@ -14,7 +14,7 @@ use Rattle.loop_core.specs.declared.decl.PropDecl.{PropDecl}
 use Rattle.loop_core.specs.declared.decl.PropKind.{PropKind}
 use Rattle.loop_core.specs.declared.decl.PropKind.TheVariants.{Range, Rising, Strict, Injective, Sorted, Below, Upto, Diagonal, Before}
 use Rattle.loop_core.specs.declared.nest.Term.{Term}
-use Rattle.loop_core.specs.Names.{is_name}
+use Rattle.loop_lines.specs.Plain.{is_plain}
 use Rattle.loop_syntax.specs.PrintNames.{names_of, array_names, array_name}
 use Rattle.loop_syntax.specs.PrintTerms.{term_text}
 use Rattle.loop_syntax.specs.PrintHeads.{size_text, source_text, decl_text, prop_text, props_text, heads_text, props_before, props_behind}
@@ -51,13 +51,13 @@ names_of_small name (Vector size source) h = more name [] h none
 
 -- the names of the declarations are names
 abbrev pub AreNamed : List Decl → Type 0
-AreNamed decls = list_all is_name (map (λ d. d.name) decls) ≡ true
+AreNamed decls = list_all is_plain (map (λ d. d.name) decls) ≡ true
 
 first_named : (d : Decl) (ds : List Decl) → AreNamed (d ∷ ds) → Small d.name
-first_named d ds h = name_small d.name (and_left (is_name d.name) (list_all is_name (map (λ d'. d'.name) ds)) h)
+first_named d ds h = name_small d.name (and_left (is_plain d.name) (list_all is_plain (map (λ d'. d'.name) ds)) h)
 
 rest_named : (d : Decl) (ds : List Decl) → AreNamed (d ∷ ds) → AreNamed ds
-rest_named d ds h = and_right (is_name d.name) (list_all is_name (map (λ d'. d'.name) ds)) h
+rest_named d ds h = and_right (is_plain d.name) (list_all is_plain (map (λ d'. d'.name) ds)) h
 
 array_names_small : (decls : List Decl) → AreNamed decls → AllSmall (array_names decls)
 array_names_small [] h = none

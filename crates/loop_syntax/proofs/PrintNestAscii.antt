@@ -16,10 +16,10 @@ use Rattle.loop_core.specs.declared.nest.Item.TheOpen.{Item-F}
 use Rattle.loop_core.specs.declared.nest.Item.TheViews.{roll-Item}
 use Rattle.loop_core.specs.declared.nest.Item.TheFolds.{ind-Item, fold-roll-Item, map-Item}
 use Rattle.loop_core.specs.declared.nest.Nest.{Nest}
-use Rattle.loop_core.specs.Names.{is_name}
+use Rattle.loop_lines.specs.Plain.{is_plain}
 use Rattle.loop_core.specs.Shape.{Loop, Line, lines_of_all, lines_step, item_lines, body_lines, line_names}
-use Rattle.loop_core.specs.IsNest.{IsNest, declared_names}
-use Rattle.loop_syntax.specs.PrintNames.{Block, Repeated, Guarded, array_name, variable_name}
+use Rattle.loop_core.specs.IsNest.{declared_names}
+use Rattle.loop_syntax.specs.PrintNames.{HasNames, Block, Repeated, Guarded, array_name, variable_name}
 use Rattle.loop_syntax.specs.PrintTerms.{term_text, entry_text}
 use Rattle.loop_syntax.specs.PrintExprs.{expr_text}
 use Rattle.loop_syntax.specs.PrintItems.{rel_text, span_text, indent, line_text, in_turn, item_step, item_text, body_text}
@@ -33,13 +33,13 @@ abbrev names_on : List Line → List (List ℕ)
 names_on lines = flat_map (λ l. line_names l.form) lines
 
 abbrev HaveNames : List Line → Type 0
-HaveNames lines = list_all is_name (names_on lines) ≡ true
+HaveNames lines = list_all is_plain (names_on lines) ≡ true
 
 names_on_append : (xs ys : List Line) → names_on (xs ++ ys) ≡ names_on xs ++ names_on ys
 names_on_append xs ys = grind (arith, common_steps)
 
-have_both : (xs ys : List Line) → HaveNames (xs ++ ys) → (list_all is_name (names_on xs) && list_all is_name (names_on ys)) ≡ true
-have_both xs ys h = sym (list_all-append is_name (names_on xs) (names_on ys)) ∙ sym (ap (list_all is_name) (names_on_append xs ys)) ∙ h
+have_both : (xs ys : List Line) → HaveNames (xs ++ ys) → (list_all is_plain (names_on xs) && list_all is_plain (names_on ys)) ≡ true
+have_both xs ys h = sym (list_all-append is_plain (names_on xs) (names_on ys)) ∙ sym (ap (list_all is_plain) (names_on_append xs ys)) ∙ h
 
 abbrev AreNamed : List Block → Type 0
 AreNamed blocks = (line : ℕ) → Small (variable_name blocks line)
@@ -75,8 +75,8 @@ module _ (decls : List Decl) (arrays : (array : ArrayId) → Small (array_name d
       let here = item_lines e.0 around in
       let rest = lines_of_all (map item_lines (map (λ x. x.0) es)) around in
       let named = have_both here rest h in
-      e.1 around blocks k (and_left (list_all is_name (names_on here)) (list_all is_name (names_on rest)) named)
-      & items_small es around blocks k (and_right (list_all is_name (names_on here)) (list_all is_name (names_on rest)) named)
+      e.1 around blocks k (and_left (list_all is_plain (names_on here)) (list_all is_plain (names_on rest)) named)
+      & items_small es around blocks k (and_right (list_all is_plain (names_on here)) (list_all is_plain (names_on rest)) named)
 
   terms : (blocks : List Block) → AreNamed blocks → (t : Term) → Small (term_text decls blocks t)
   terms blocks k = term_small decls blocks arrays k
@@ -86,10 +86,10 @@ module _ (decls : List Decl) (arrays : (array : ArrayId) → Small (array_name d
       → Small (item_step decls (Item-F.For line name lo hi (map (item_text decls) (map (λ e. e.0) body))) blocks)
   for_small line name lo hi body around blocks k h =
       let rest = lines_of_all (map item_lines (map (λ e. e.0) body)) (record { line = line; name = name } ∷ around) in
-      let named : Small name = name_small name (and_left (is_name name) (list_all is_name (names_on rest)) h) in
+      let named : Small name = name_small name (and_left (is_plain name) (list_all is_plain (names_on rest)) h) in
       let span : Small (span_text decls blocks lo hi) = terms blocks k lo & word (codes "..") refl & terms blocks k hi in
       line_small blocks (codes "for " ++ name ++ codes " in " ++ span_text decls blocks lo hi) (word (codes "for ") refl & named & word (codes " in ") refl & span)
-      & items_small body (record { line = line; name = name } ∷ around) (Repeated line name ∷ blocks) (inside line name blocks named k) (and_right (is_name name) (list_all is_name (names_on rest)) h)
+      & items_small body (record { line = line; name = name } ∷ around) (Repeated line name ∷ blocks) (inside line name blocks named k) (and_right (is_plain name) (list_all is_plain (names_on rest)) h)
       & line_small blocks (codes "end") (word (codes "end") refl)
 
   when_small : (line : ℕ) (rel : Rel) (left right : Term) (body : List SmallItem) (around : List Loop) (blocks : List Block) → AreNamed blocks
@@ -128,24 +128,24 @@ module _ (decls : List Decl) (arrays : (array : ArrayId) → Small (array_name d
       let here = item_lines i around in
       let rest = lines_of_all (map item_lines is) around in
       let named = have_both here rest h in
-      item_small i around blocks k (and_left (list_all is_name (names_on here)) (list_all is_name (names_on rest)) named)
-      & body_small is around blocks k (and_right (list_all is_name (names_on here)) (list_all is_name (names_on rest)) named)
+      item_small i around blocks k (and_left (list_all is_plain (names_on here)) (list_all is_plain (names_on rest)) named)
+      & body_small is around blocks k (and_right (list_all is_plain (names_on here)) (list_all is_plain (names_on rest)) named)
 
-nest_small : (nest : Nest) → IsNest nest → Small (nest_text nest)
+nest_small : (nest : Nest) → HasNames nest → Small (nest_text nest)
 nest_small nest is =
     let declared = declared_names nest in
     let inner = names_on (body_lines nest) in
-    let all : (list_all is_name declared && list_all is_name (nest.name ∷ inner)) ≡ true = sym (list_all-append is_name declared (nest.name ∷ inner)) ∙ is.names in
-    let decls = and_left (list_all is_name declared) (list_all is_name (nest.name ∷ inner)) all in
-    let own = and_right (list_all is_name declared) (list_all is_name (nest.name ∷ inner)) all in
-    let name : Small nest.name = name_small nest.name (and_left (is_name nest.name) (list_all is_name inner) own) in
+    let all : (list_all is_plain declared && list_all is_plain (nest.name ∷ inner)) ≡ true = sym (list_all-append is_plain declared (nest.name ∷ inner)) ∙ is.names in
+    let decls = and_left (list_all is_plain declared) (list_all is_plain (nest.name ∷ inner)) all in
+    let own = and_right (list_all is_plain declared) (list_all is_plain (nest.name ∷ inner)) all in
+    let name : Small nest.name = name_small nest.name (and_left (is_plain nest.name) (list_all is_plain inner) own) in
     let arrays = array_small nest.decls decls in
     let named : AreNamed (Repeated nest.line nest.name ∷ []) = inside nest.line nest.name [] name (λ line. word [] refl) in
     heads_small nest.decls arrays nest.decls nest.props decls
     & word (codes "loop ") refl & name & word (codes "\n") refl
     & body_small nest.decls arrays nest.body (record { line = nest.line; name = nest.name } ∷ []) (Repeated nest.line nest.name ∷ []) named
-    (and_right (is_name nest.name) (list_all is_name inner) own)
+    (and_right (is_plain nest.name) (list_all is_plain inner) own)
     & word (codes "end\n") refl
 
-pub nest_utf8 : (nest : Nest) → IsNest nest → IsUtf8 (nest_text nest)
+pub nest_utf8 : (nest : Nest) → HasNames nest → IsUtf8 (nest_text nest)
 nest_utf8 nest is = IsUtf8-from_ascii (nest_text nest) (small_ascii (nest_text nest) (nest_small nest is))

@@ -1,8 +1,13 @@
 -- The names of arrays and variables in a text.
-use Rattle.std.specs.Prelude.{ℕ, ◌==◌, if◌then◌else◌, codes, slice_index_or, List, [], ◌∷◌, ◌++◌}
+use Rattle.std.specs.Prelude.{ℕ, IsTrue, ◌==◌, if◌then◌else◌, codes, slice_index_or, List, [], ◌∷◌, ◌++◌}
 use Rattle.wave_base.specs.declared.types.ArrayId.{ArrayId}
+use Rattle.std.specs.List.{list_all, flat_map}
 use Rattle.loop_core.specs.declared.decl.Decl.{Decl}
 use Rattle.loop_core.specs.declared.decl.Form.TheVariants.{Csr, Csc}
+use Rattle.loop_core.specs.declared.nest.Nest.{Nest}
+use Rattle.loop_core.specs.IsNest.{declared_names}
+use Rattle.loop_core.specs.Shape.{body_lines, line_names}
+use Rattle.loop_lines.specs.Plain.{is_plain}
 use Rattle.loop_core.specs.declared.decl.DeclKind.{DeclKind}
 use Rattle.loop_core.specs.declared.decl.DeclKind.TheVariants.{Matrix, Index, Vector}
 pub use Rattle.loop_syntax.specs.declared.scope.Block.{Block}
@@ -28,3 +33,11 @@ abbrev pub variable_name : List Block → ℕ → List ℕ
 variable_name [] at = []
 variable_name (Repeated line name ∷ more) at = if line == at then name else variable_name more at
 variable_name (Guarded ∷ more) at = variable_name more at
+
+-- the names that a nest declares, its variables' among them
+abbrev pub nest_names : Nest → List (List ℕ)
+nest_names nest = declared_names nest ++ nest.name ∷ flat_map (λ l. line_names l.form) (body_lines nest)
+
+-- they consist of letters, digits and `_`
+pub record HasNames (nest : Nest) : Type 0 where
+  pub names : IsTrue (list_all is_plain (nest_names nest))

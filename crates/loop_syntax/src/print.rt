@@ -1,7 +1,7 @@
 // The canonical text of a nest.
 ghost use Rattle.std.specs.Prelude.{◌≡◌, IfOk};
 ghost use Rattle.std.specs.String.{string_bytes};
-ghost use Rattle.loop_core.specs.IsNest.{IsNest};
+ghost use Rattle.loop_syntax.specs.PrintNames.{HasNames};
 ghost use Rattle.loop_syntax.specs.PrintText.{nest_text};
 
 mod exprs;
@@ -34,7 +34,7 @@ fn bytes_of(alloc: Global, nest: &Nest) -> Result<Vec<u8>, Memory>
 /// linear in the length of the text, and each array's name is looked up among the declarations.
 #[tactic(auto, using(crate::proofs::PrintNestAscii::nest_utf8))]
 pub fn print(alloc: Global, nest: &Nest) -> Result<String, Memory>
-    requires { IsNest nest.now }
+    requires { HasNames nest.now }
     ensures { IfOk result (λ text. string_bytes text ≡ nest_text nest.now) }
 {
     let bytes = bytes_of(alloc, nest)?;

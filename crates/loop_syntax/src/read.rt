@@ -2,6 +2,8 @@
 ghost use Rattle.std.specs.Prelude.{◌≡◌, ◌≤◌, ◌^◌, None, length, IfOk};
 ghost use Rattle.text_base.specs.Lines.{lines};
 ghost use Rattle.loop_core.specs.Depth.{body_depth};
+ghost use Rattle.loop_core.specs.Sizes.{sizes};
+ghost use Rattle.loop_syntax.specs.PrintNames.{HasNames};
 ghost use Rattle.loop_syntax.specs.TextNest.{refusal, Answers};
 
 use crate::build::build;
@@ -39,6 +41,9 @@ pub fn read(alloc: Global, bytes: &[u8]) -> Result<Nest, LoopRefusal>
     ensures answer { Answers (lines bytes.now) result }
     // At most five loops stand in one another inside the outer one.
     ensures shallow { IfOk result (λ nest. body_depth nest.body ≤ 5) }
+    ensures few { IfOk result (λ nest. length (sizes nest.decls) ≤ 64) }
+    // Names consist of letters, digits and `_`.
+    ensures names { IfOk result HasNames }
 {
     match refusal(alloc, bytes)? {
         Some(why) => Err(why),

@@ -3,6 +3,8 @@ use Rattle.text_base.specs.Lines.{lines}
 use Rattle.loop_syntax.specs.Numbered.{numbered}
 use Rattle.loop_syntax.proofs.ReadLaws.{refused, fits, is_few}
 use Rattle.loop_syntax.proofs.ShallowLaws.{shallow}
+use Rattle.loop_syntax.proofs.ArrayLaws.{few_arrays}
+use Rattle.loop_syntax.proofs.NameLaws.{has_names}
 use Rattle.loop_syntax.proofs.read.read.Goals as goal
 
 pub returns-in-Some-clause-answer : goal.returns-in-Some-clause-answer
@@ -19,3 +21,11 @@ returns-in_ok-build-in-None-clause-shallow c =
     let ls = lines c.args.bytes.now in
     let none = sym c.in_ok-why.ensures ∙ c.in-None.is in
     shallow (numbered ls) c.in_ok-build-in-None.field-0 (fits ls none) (is_few ls none) c.in_ok-build-in-None.ensures
+
+pub returns-in_ok-build-in-None-clause-few : goal.returns-in_ok-build-in-None-clause-few
+returns-in_ok-build-in-None-clause-few c =
+    let ls = lines c.args.bytes.now in
+    few_arrays (numbered ls) c.in_ok-build-in-None.field-0 (is_few ls (sym c.in_ok-why.ensures ∙ c.in-None.is)) c.in_ok-build-in-None.ensures
+
+pub returns-in_ok-build-in-None-clause-names : goal.returns-in_ok-build-in-None-clause-names
+returns-in_ok-build-in-None-clause-names c = has_names (lines c.args.bytes.now) c.in_ok-build-in-None.field-0 c.in_ok-build-in-None.ensures
