@@ -14,4 +14,6 @@ pub mod read;
 pub mod refusal;
 pub mod resolve;
 pub mod scope;
+#[cfg(test)]
+mod tests;
 pub mod written;
