@@ -9,7 +9,7 @@ ghost use Rattle.loop_syntax.specs.declared.body.Body.TheVariants as bodies;
 ghost use Rattle.loop_syntax.specs.Resolved.{array_in as array_number, term_in as term_value, value_in as expr_value};
 ghost use Rattle.loop_syntax.specs.declared.items.Head.TheVariants.{For as repeats, When as guards};
 
-use crate::items::{add_statement, close_block, Head, OpenBlock};
+use crate::items::{Head, OpenBlock, add_statement, close_block};
 use crate::resolve::{array_in, term_in, value_in};
 use crate::scope::Scope;
 use loop_core::name::Name;

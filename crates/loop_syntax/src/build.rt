@@ -11,7 +11,7 @@ ghost use Rattle.loop_syntax.specs.Gathering.{Grows, IsMade};
 ghost use Rattle.loop_syntax.specs.declared.body.Body.TheVariants.{Above as above};
 ghost use Rattle.loop_syntax.specs.TextNest.{IsNestOf};
 
-use crate::body::{go_on, Body};
+use crate::body::{Body, go_on};
 use crate::numbered::{Numbered, NumberedLines};
 use crate::resolve::prop_in;
 use crate::scope::Scope;
@@ -31,12 +31,7 @@ pub struct Gathered {
     pub body: Body,
 }
 
-fn declare(
-    decls: &mut Items<Decl>,
-    line: u16,
-    name: &Name,
-    kind: DeclKind,
-) -> Result<(), Memory>
+fn declare(decls: &mut Items<Decl>, line: u16, name: &Name, kind: DeclKind) -> Result<(), Memory>
     ensures { IfOk result (λ _. decls.new ≡ decls.old ++ record { line = line; name = name.now; kind = kind } ∷ []) }
 {
     decls.push(Decl {

@@ -1,6 +1,5 @@
 // Texts that are read and printed again, and texts that are refused, by hand.
-use crate::print::heads::put_heads;
-use crate::print::items::put_loop;
+use crate::print::bytes_of;
 use crate::read::read;
 use crate::refusal::{LimitKind, LoopRefusal, NameKind};
 use loop_core::nest::Nest;
@@ -16,16 +15,10 @@ fn answer(alloc: Global, text: &[u8]) -> Result<Result<Nest, LoopRefusal>, Fail>
 
 fn shown(alloc: Global, text: &[u8]) -> Result<Vec<u8>, Fail> {
     match answer(alloc, text)? {
-        Ok(nest) => {
-            let mut shown = Vec::new(alloc);
-            if put_heads(&mut shown, nest.decls.as_slice(), nest.props.as_slice()).is_err() {
-                return Err("memory".into());
-            }
-            match put_loop(&mut shown, &nest) {
-                Ok(()) => Ok(shown),
-                Err(_) => Err("memory".into()),
-            }
-        }
+        Ok(nest) => match bytes_of(alloc, &nest) {
+            Ok(text) => Ok(text),
+            Err(_) => Err("memory".into()),
+        },
         Err(_) => Err("the text is refused".into()),
     }
 }
@@ -57,7 +50,8 @@ fn long(alloc: Global, front: &[u8], line: &[u8], times: u32, end: &[u8]) -> Res
     Ok(text)
 }
 
-const FORWARD: &[u8] = b"matrix a csr\nvector b n file\nvector x n zero\nrange a.ptr 0 nnz+1\nrange a.col 0 n\nrising a.ptr\nsorted a.col by a.ptr\ndiagonal a.diag of a.col by a.ptr\nloop i\n  set x[i] = b[i]\n  for p in a.ptr[i]..a.diag[i]\n    set x[i] = x[i] - a.val[p] * x[a.col[p]]\n  end\nend\n";
+const FORWARD: &[u8] =
+    b"matrix a csr\nvector b n file\nvector x n zero\nrange a.ptr 0 nnz+1\nrange a.col 0 n\nrising a.ptr\nsorted a.col by a.ptr\ndiagonal a.diag of a.col by a.ptr\nloop i\n  set x[i] = b[i]\n  for p in a.ptr[i]..a.diag[i]\n    set x[i] = x[i] - a.val[p] * x[a.col[p]]\n  end\nend\n";
 
 #[test]
 fn reads_loops(rt: HostRuntime) -> Result<(), Fail> {
@@ -77,8 +71,10 @@ fn reads_loops(rt: HostRuntime) -> Result<(), Fail> {
 
 #[test]
 fn reads_the_innermost_variable(rt: HostRuntime) -> Result<(), Fail> {
-    let text = b"# names\n\nindex q n\nmatrix a csc\nvector x n zero\nvector y nnz file\n\nloop i\nfor j in 0 .. q [ i ]\nset y[j-01]=(x[i])*(1-a.val[j])\nend\nfor j in i..n\nwhen a.row[j]<=i\nset x[j]=y[q[j]]\nend\nend\nend";
-    let want = b"index q n\nmatrix a csc\nvector x n zero\nvector y nnz file\nloop i\n  for j in 0..q[i]\n    set y[j-1] = x[i] * (1 - a.val[j])\n  end\n  for j in i..n\n    when a.row[j] <= i\n      set x[j] = y[q[j]]\n    end\n  end\nend\n";
+    let text =
+        b"# names\n\nindex q n\nmatrix a csc\nvector x n zero\nvector y nnz file\n\nloop i\nfor j in 0 .. q [ i ]\nset y[j-01]=(x[i])*(1-a.val[j])\nend\nfor j in i..n\nwhen a.row[j]<=i\nset x[j]=y[q[j]]\nend\nend\nend";
+    let want =
+        b"index q n\nmatrix a csc\nvector x n zero\nvector y nnz file\nloop i\n  for j in 0..q[i]\n    set y[j-1] = x[i] * (1 - a.val[j])\n  end\n  for j in i..n\n    when a.row[j] <= i\n      set x[j] = y[q[j]]\n    end\n  end\nend\n";
     assert_eq!(rt; shown(rt.alloc(), text)?.as_slice(), want.as_slice());
     Ok(())
 }
@@ -98,10 +94,18 @@ fn refuses_names(rt: HostRuntime) -> Result<(), Fail> {
         (b"sorted a.col by q\nloop i\nend", 5, NameKind::WrongKind),
         (b"below x by y\nloop i\nend", 5, NameKind::WrongKind),
         (b"upto y by x\nloop i\nend", 5, NameKind::Unknown),
-        (b"diagonal p of a.col by p\nloop i\nend", 5, NameKind::WrongKind),
+        (
+            b"diagonal p of a.col by p\nloop i\nend",
+            5,
+            NameKind::WrongKind,
+        ),
         (b"diagonal q of y by p\nloop i\nend", 5, NameKind::Unknown),
         (b"before q p\nloop i\nend", 5, NameKind::WrongKind),
-        (b"injective later\nindex later n\nloop i\nend", 5, NameKind::Unknown),
+        (
+            b"injective later\nindex later n\nloop i\nend",
+            5,
+            NameKind::Unknown,
+        ),
         (b"loop x\nset y[0] = 0\nend", 5, NameKind::Twice),
         (b"loop n1\nset y[0] = 0\nend", 6, NameKind::Unknown),
         (b"loop i\nset q[y] = 0\nend", 6, NameKind::WrittenIndex),
@@ -126,9 +130,21 @@ fn refuses_names_of_loops(rt: HostRuntime) -> Result<(), Fail> {
         (b"for i in 0..n\nend\nend", 4, NameKind::Twice),
         (b"for x in y..n\nend\nend", 4, NameKind::Twice),
         (b"for p in p..n\nend\nend", 4, NameKind::Unknown),
-        (b"for p in 0..n\nend\nset x[p] = 0\nend", 6, NameKind::Unknown),
-        (b"for p in 0..n\nfor p in p..n\nend\nend\nend", 5, NameKind::Twice),
-        (b"when a.ptr[i] < a.val[i]\nend\nend", 4, NameKind::WrongKind),
+        (
+            b"for p in 0..n\nend\nset x[p] = 0\nend",
+            6,
+            NameKind::Unknown,
+        ),
+        (
+            b"for p in 0..n\nfor p in p..n\nend\nend\nend",
+            5,
+            NameKind::Twice,
+        ),
+        (
+            b"when a.ptr[i] < a.val[i]\nend\nend",
+            4,
+            NameKind::WrongKind,
+        ),
         (b"when 0 == a\nend\nend", 4, NameKind::WrongKind),
     ];
     for (end, line, kind) in lines {
@@ -146,11 +162,26 @@ fn counts_lines_and_arrays(rt: HostRuntime) -> Result<(), Fail> {
     let text = long(alloc, front, b"\n", 397, b"")?;
     assert_eq!(rt; refused(alloc, text.as_slice())?, read);
     let text = long(alloc, front, b"\n", 398, b"")?;
-    assert_eq!(rt; refused(alloc, text.as_slice())?, limit(401, LimitKind::Lines));
+    assert_eq!(rt;
+        refused(alloc, text.as_slice())?,
+        limit(401, LimitKind::Lines)
+    );
     let text = long(alloc, front, b"\n", 70_000, b"loop j")?;
-    assert_eq!(rt; refused(alloc, text.as_slice())?, LoopRefusal::Text { line: 70_004 });
-    let text = long(alloc, b"matrix a csr\nloop i\n", b"#\n", 70_000, b"when j < n\nend\nend")?;
-    assert_eq!(rt; refused(alloc, text.as_slice())?, name(70_003, NameKind::Unknown));
+    assert_eq!(rt;
+        refused(alloc, text.as_slice())?,
+        LoopRefusal::Text { line: 70_004 }
+    );
+    let text = long(
+        alloc,
+        b"matrix a csr\nloop i\n",
+        b"#\n",
+        70_000,
+        b"when j < n\nend\nend",
+    )?;
+    assert_eq!(rt;
+        refused(alloc, text.as_slice())?,
+        name(70_003, NameKind::Unknown)
+    );
     Ok(())
 }
 
@@ -174,11 +205,20 @@ fn counts_arrays(rt: HostRuntime) -> Result<(), Fail> {
     let text = declarations(alloc, 60, b"loop i\nset vaa[i] = vch[i]\nend")?;
     assert_eq!(rt; refused(alloc, text.as_slice())?, LoopRefusal::Memory);
     let text = declarations(alloc, 61, b"loop i\nend")?;
-    assert_eq!(rt; refused(alloc, text.as_slice())?, limit(62, LimitKind::Arrays));
+    assert_eq!(rt;
+        refused(alloc, text.as_slice())?,
+        limit(62, LimitKind::Arrays)
+    );
     let text = declarations(alloc, 300, b"loop i\nset vaa[i] = w[i]\nend")?;
-    assert_eq!(rt; refused(alloc, text.as_slice())?, name(303, NameKind::Unknown));
+    assert_eq!(rt;
+        refused(alloc, text.as_slice())?,
+        name(303, NameKind::Unknown)
+    );
     let text = declarations(alloc, 300, b"loop i\nset vaa[i] = vln[i]\nend")?;
-    assert_eq!(rt; refused(alloc, text.as_slice())?, limit(62, LimitKind::Arrays));
+    assert_eq!(rt;
+        refused(alloc, text.as_slice())?,
+        limit(62, LimitKind::Arrays)
+    );
     Ok(())
 }
 
@@ -187,14 +227,35 @@ fn counts_constants(rt: HostRuntime) -> Result<(), Fail> {
     let read = LoopRefusal::Memory;
     let lines: [(&[u8], LoopRefusal); 9] = [
         (b"range a.ptr 0-1048576 n+1048576\nloop i\nend", read),
-        (b"range a.ptr 0-1048577 n\nloop i\nend", limit(3, LimitKind::Constant)),
-        (b"range a.ptr 0 nnz+1048577\nloop i\nend", limit(3, LimitKind::Constant)),
-        (b"loop i\nset x[i+1048577] = 0\nend", limit(4, LimitKind::Constant)),
-        (b"loop i\nset x[i] = x[a.ptr[n-1048577]]\nend", limit(4, LimitKind::Constant)),
+        (
+            b"range a.ptr 0-1048577 n\nloop i\nend",
+            limit(3, LimitKind::Constant),
+        ),
+        (
+            b"range a.ptr 0 nnz+1048577\nloop i\nend",
+            limit(3, LimitKind::Constant),
+        ),
+        (
+            b"loop i\nset x[i+1048577] = 0\nend",
+            limit(4, LimitKind::Constant),
+        ),
+        (
+            b"loop i\nset x[i] = x[a.ptr[n-1048577]]\nend",
+            limit(4, LimitKind::Constant),
+        ),
         (b"loop i\nset x[i] = 1 + 9223372036854775807\nend", read),
-        (b"loop i\nfor p in 0..1048577\nend\nend", limit(4, LimitKind::Constant)),
-        (b"loop i\nwhen 1048577 < n\nend\nend", limit(4, LimitKind::Constant)),
-        (b"loop i\nwhen 1048577 < j\nend\nend", name(4, NameKind::Unknown)),
+        (
+            b"loop i\nfor p in 0..1048577\nend\nend",
+            limit(4, LimitKind::Constant),
+        ),
+        (
+            b"loop i\nwhen 1048577 < n\nend\nend",
+            limit(4, LimitKind::Constant),
+        ),
+        (
+            b"loop i\nwhen 1048577 < j\nend\nend",
+            name(4, NameKind::Unknown),
+        ),
     ];
     for (end, why) in lines {
         let text = long(rt.alloc(), b"matrix a csr\nvector x n zero\n", end, 1, b"")?;
@@ -206,19 +267,51 @@ fn counts_constants(rt: HostRuntime) -> Result<(), Fail> {
 #[test]
 fn counts_loops_and_references(rt: HostRuntime) -> Result<(), Fail> {
     let read = LoopRefusal::Memory;
-    let five = b"for j in 0..n\nfor k in 0..n\nfor l in 0..n\nwhen 0 < n\nfor o in 0..n\nfor p in 0..n\n";
+    let five =
+        b"for j in 0..n\nfor k in 0..n\nfor l in 0..n\nwhen 0 < n\nfor o in 0..n\nfor p in 0..n\n";
     let lines: [(&[u8], u32, &[u8], LoopRefusal); 8] = [
         (five, 1, b"end\nend\nend\nend\nend\nend\nend", read),
-        (five, 1, b"for q in 0..n\nend\nend\nend\nend\nend\nend\nend\nend", limit(11, LimitKind::Depth)),
-        (five, 1, b"for q in 0..1048577\nend\nend\nend\nend\nend\nend\nend\nend", limit(11, LimitKind::Constant)),
+        (
+            five,
+            1,
+            b"for q in 0..n\nend\nend\nend\nend\nend\nend\nend\nend",
+            limit(11, LimitKind::Depth),
+        ),
+        (
+            five,
+            1,
+            b"for q in 0..1048577\nend\nend\nend\nend\nend\nend\nend\nend",
+            limit(11, LimitKind::Constant),
+        ),
         (b"set x[i] = x[0]", 1, b"\nset x[i] = y[i]\nend", read),
-        (b"set x[i] = 1", 1, b"+x[0]+x[0]+x[0]+x[0]+x[0]+x[0]+x[0]+x[0]+x[0]+x[0]+x[0]+x[0]+x[0]+x[0]+x[0]\nend", read),
-        (b"set x[i] = y[0]", 1, b"+x[0]+x[0]+x[0]+x[0]+x[0]+x[0]+x[0]+x[0]+x[0]+x[0]+x[0]+x[0]+x[0]+x[0]+x[0]+x[0]\nend", limit(5, LimitKind::References)),
+        (
+            b"set x[i] = 1",
+            1,
+            b"+x[0]+x[0]+x[0]+x[0]+x[0]+x[0]+x[0]+x[0]+x[0]+x[0]+x[0]+x[0]+x[0]+x[0]+x[0]\nend",
+            read,
+        ),
+        (
+            b"set x[i] = y[0]",
+            1,
+            b"+x[0]+x[0]+x[0]+x[0]+x[0]+x[0]+x[0]+x[0]+x[0]+x[0]+x[0]+x[0]+x[0]+x[0]+x[0]+x[0]\nend",
+            limit(5, LimitKind::References),
+        ),
         (b"set x[i] = y[0]\n", 16, b"end", read),
-        (b"set x[i] = y[0]\n", 16, b"set y[i] = 0\nend", limit(13, LimitKind::References)),
+        (
+            b"set x[i] = y[0]\n",
+            16,
+            b"set y[i] = 0\nend",
+            limit(13, LimitKind::References),
+        ),
     ];
     for (line, times, end, why) in lines {
-        let front = long(rt.alloc(), b"matrix a csr\nvector x n zero\nvector y n zero\nloop i\n", line, times, end)?;
+        let front = long(
+            rt.alloc(),
+            b"matrix a csr\nvector x n zero\nvector y n zero\nloop i\n",
+            line,
+            times,
+            end,
+        )?;
         assert_eq!(rt; refused(rt.alloc(), front.as_slice())?, why);
     }
     Ok(())
@@ -232,13 +325,28 @@ fn goes_deep(rt: HostRuntime) -> Result<(), Fail> {
     let text = long(alloc, open.as_slice(), b"end\n", 199, b"")?;
     assert_eq!(rt; refused(alloc, text.as_slice())?, LoopRefusal::Memory);
     let text = long(alloc, front, b"when 0<n\n", 6_500, b"")?;
-    assert_eq!(rt; refused(alloc, text.as_slice())?, LoopRefusal::Text { line: 6_504 });
+    assert_eq!(rt;
+        refused(alloc, text.as_slice())?,
+        LoopRefusal::Text { line: 6_504 }
+    );
     let open = long(alloc, front, b"when 0<n\n", 6_500, b"")?;
     let text = long(alloc, open.as_slice(), b"end\n", 6_501, b"")?;
-    assert_eq!(rt; refused(alloc, text.as_slice())?, limit(401, LimitKind::Lines));
+    assert_eq!(rt;
+        refused(alloc, text.as_slice())?,
+        limit(401, LimitKind::Lines)
+    );
     let text = long(alloc, front, b"(", 200, b"\nend")?;
-    assert_eq!(rt; refused(alloc, text.as_slice())?, LoopRefusal::Text { line: 4 });
-    let open = long(alloc, b"matrix a csr\nvector x n zero\nloop i\nset x[i] = ", b"(", 94, b"1")?;
+    assert_eq!(rt;
+        refused(alloc, text.as_slice())?,
+        LoopRefusal::Text { line: 4 }
+    );
+    let open = long(
+        alloc,
+        b"matrix a csr\nvector x n zero\nloop i\nset x[i] = ",
+        b"(",
+        94,
+        b"1",
+    )?;
     let text = long(alloc, open.as_slice(), b")", 94, b"\nend")?;
     assert_eq!(rt; refused(alloc, text.as_slice())?, LoopRefusal::Memory);
     Ok(())
