@@ -1,5 +1,5 @@
 -- What lines give so far, and what is left to give.
-use Rattle.std.proofs.Common.{◌≡◌, ℕ, List, [], ◌∷◌, ◌++◌, Option, Some, None, refl, sym, ap, subst, ◌∙◌, append_assoc}
+use Rattle.std.proofs.Common.{◌≡◌, ℕ, List, [], ◌∷◌, ◌++◌, Option, Some, sym, ap, subst, ◌∙◌, append_assoc}
 use Rattle.std.proofs.lemmas.List.{append-nil}
 use Rattle.loop_core.specs.declared.decl.Decl.{Decl}
 use Rattle.loop_core.specs.declared.decl.PropDecl.{PropDecl}
@@ -9,10 +9,10 @@ use Rattle.loop_syntax.specs.declared.numbered.Numbered.{Numbered}
 use Rattle.loop_syntax.specs.declared.build.Gathered.{Gathered}
 use Rattle.loop_syntax.specs.Scope.{Scope, empty, scope_after}
 use Rattle.loop_syntax.specs.Resolved.{declaration, property, mark, outer}
-use Rattle.loop_syntax.specs.Nesting.{Mark, Ends, marks}
-use Rattle.loop_syntax.specs.Stages.{Stage, Above, Behind, stage_after, AreNested, AreFew}
+use Rattle.loop_syntax.specs.Nesting.{Mark}
+use Rattle.loop_syntax.specs.Stages.{Stage, Above, Behind, AreNested, AreFew}
 use Rattle.loop_syntax.specs.Numbered.{Follows}
-use Rattle.loop_syntax.specs.Bodies.{stage_of, outer_of, marks_of, Joins, Goes}
+use Rattle.loop_syntax.specs.Bodies.{stage_of, outer_of, marks_of, Joins}
 use Rattle.loop_syntax.specs.Gathering.{Grows, IsMade}
 use Rattle.loop_syntax.specs.TextNest.{gathered, declarations, properties, outer_loops, body_marks, IsNestOf}
 use Rattle.loop_syntax.proofs.StageLaws.{nested_next}

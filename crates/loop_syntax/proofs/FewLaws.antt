@@ -1,6 +1,6 @@
 -- Lines with rising numbers, and lines that pass no limit.
-use Rattle.std.proofs.Common.{◌≡◌, ℕ, zero, suc, ◌+◌, ◌*◌, ◌≤◌, ◌<◌, Bool, true, false, min, nat_lt, nat_le, if◌then◌else◌, List, [], ◌∷◌, length, Option, Some, None, refl, sym, ap, subst, ◌∙◌, arith}
-use Rattle.std.specs.List.{filter, onto_first}
+use Rattle.std.proofs.Common.{◌≡◌, ℕ, ◌+◌, ◌≤◌, ◌<◌, Bool, true, false, min, nat_lt, nat_le, if◌then◌else◌, List, [], ◌∷◌, length, Option, Some, None, refl, sym, ap, subst, ◌∙◌, arith}
+use Rattle.std.specs.List.{filter}
 use Rattle.std.proofs.lemmas.Bool.Decides.{nat_tests}
 use Rattle.text_base.specs.Lines.{lines, first_line, after_line}
 use Rattle.text_base.proofs.LineLaws.{lines_first}
@@ -10,7 +10,7 @@ use Rattle.loop_lines.specs.Reading.{or_else}
 use Rattle.loop_lines.specs.Words.{either}
 use Rattle.loop_syntax.specs.declared.numbered.Numbered.{Numbered}
 use Rattle.loop_syntax.specs.declared.refusal.LimitKind.{LimitKind}
-use Rattle.loop_syntax.specs.declared.refusal.LimitKind.TheVariants.{Lines, Constant, Arrays, Depth, References}
+use Rattle.loop_syntax.specs.declared.refusal.LimitKind.TheVariants.{Lines, Arrays, Depth, References}
 use Rattle.loop_syntax.specs.Numbered.{worded, before, numbered_from, Follows}
 use Rattle.loop_syntax.specs.Scope.{Scope, empty, scope_after, use_of, variables}
 use Rattle.loop_syntax.specs.Resolved.{number_of}

@@ -1,5 +1,5 @@
 -- Scopes stay narrow line by line.
-use Rattle.std.proofs.Common.{◌≡◌, ℕ, zero, suc, ◌+◌, ◌≤◌, ◌<◌, Bool, true, false, if◌then◌else◌, codes, List, [], ◌∷◌, ◌++◌, Option, Some, None, refl, sym, ap, subst, arith}
+use Rattle.std.proofs.Common.{ℕ, ◌+◌, ◌≤◌, ◌<◌, Bool, true, false, if◌then◌else◌, codes, List, [], ◌∷◌, ◌++◌, Option, Some, None, arith}
 use Rattle.std.specs.Str.{bytes_eq}
 use Rattle.loop_core.specs.declared.decl.Form.{Form}
 use Rattle.loop_core.specs.declared.decl.Size.TheVariants as sizes
@@ -9,14 +9,12 @@ use Rattle.loop_lines.specs.declared.tree.ArrayName.{ArrayName}
 use Rattle.loop_lines.specs.declared.tree.ArrayName.TheVariants.{Own, Dotted}
 use Rattle.loop_syntax.specs.declared.scope.Meaning.{Meaning}
 use Rattle.loop_syntax.specs.declared.scope.Meaning.TheVariants as meanings
-use Rattle.loop_syntax.specs.declared.scope.ArrayUse.{ArrayUse}
 use Rattle.loop_syntax.specs.declared.scope.ArrayUse.TheVariants as uses
 use Rattle.loop_syntax.specs.declared.scope.Known.{Known}
 use Rattle.loop_syntax.specs.declared.scope.Parts.{Parts}
 use Rattle.loop_syntax.specs.declared.scope.Block.{Block}
 use Rattle.loop_syntax.specs.declared.scope.Block.TheVariants.{Repeated, Guarded}
-use Rattle.loop_syntax.specs.declared.numbered.Numbered.{Numbered}
-use Rattle.loop_syntax.specs.Scope.{Scope, empty, variables, known, found, meaning_of, declared, opened, outer_blocks, closed, parts_from, scope_behind, index_part, part_use, own_use, dotted_use, use_of}
+use Rattle.loop_syntax.specs.Scope.{Scope, empty, variables, known, found, meaning_of, declared, outer_blocks, parts_from, scope_behind, index_part, part_use, own_use, dotted_use, use_of}
 use Rattle.loop_syntax.specs.Resolved.{number_of, loop_line}
 use Rattle.loop_syntax.specs.Narrow.{IsNarrow}
 

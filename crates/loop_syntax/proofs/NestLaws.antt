@@ -1,11 +1,11 @@
 -- The lines of items grow by what is put behind them.
-use Rattle.std.proofs.Common.{◌≡◌, ℕ, zero, suc, ◌+◌, List, [], ◌∷◌, ◌++◌, length, map, Option, Some, refl, sym, ap, ◌∙◌, append_assoc, length-append, arith}
+use Rattle.std.proofs.Common.{◌≡◌, ℕ, zero, suc, ◌+◌, List, [], ◌∷◌, ◌++◌, length, Some, refl, sym, ap, ◌∙◌, append_assoc, length-append, arith}
 use Rattle.std.proofs.lemmas.List.{append-nil}
 use Rattle.loop_core.specs.declared.nest.Item.{Item}
 use Rattle.loop_lines.specs.declared.line.Line.TheVariants as lines
 use Rattle.loop_syntax.specs.declared.items.OpenBlock.{OpenBlock}
 use Rattle.loop_syntax.specs.Nesting.{Mark, Opens, Ends, item_marks, marks, open_marks, so_far}
-use Rattle.loop_syntax.specs.Stages.{Stage, Within, stage_within}
+use Rattle.loop_syntax.specs.Stages.{Within, stage_within}
 
 pub marks_more : (items : List Item) (item : Item) → marks (items ++ item ∷ []) ≡ marks items ++ item_marks item
 marks_more [] item = append-nil (item_marks item)

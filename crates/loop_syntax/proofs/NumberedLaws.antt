@@ -4,7 +4,6 @@ use Rattle.text_base.specs.Lines.{lines, first_line, after_line}
 use Rattle.text_base.proofs.LineLaws.{lines_first}
 use Rattle.loop_lines.specs.declared.line.Line.{Line}
 use Rattle.loop_lines.specs.Fitting.{text_line}
-use Rattle.loop_syntax.specs.declared.numbered.Numbered.{Numbered}
 use Rattle.loop_syntax.specs.Numbered.{worded, before, numbered_from}
 
 first_of : (n : ℕ) (s line after : List ℕ) (found : Option Line) → 0 < length s → line ≡ first_line s → after ≡ after_line s → found ≡ worded (text_line line)

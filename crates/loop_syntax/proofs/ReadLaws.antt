@@ -3,7 +3,6 @@ use Rattle.std.proofs.Common.{◌≡◌, ℕ, List, length, Option, Some, None, 
 use Rattle.std.specs.Option.{option_map}
 use Rattle.loop_lines.specs.Words.{either}
 use Rattle.loop_lines.specs.Fitting.{misfit, start}
-use Rattle.loop_syntax.specs.declared.refusal.NameKind.{NameKind}
 use Rattle.loop_syntax.specs.declared.refusal.LimitKind.{LimitKind}
 use Rattle.loop_syntax.specs.declared.refusal.LoopRefusal.{LoopRefusal}
 use Rattle.loop_syntax.specs.declared.refusal.LoopRefusal.TheVariants as refusals

@@ -1,5 +1,5 @@
 -- Loops of a text that passes no limit stand at most five deep inside the outer one.
-use Rattle.std.proofs.Common.{◌≡◌, ℕ, zero, suc, ◌+◌, ◌≤◌, max, Bool, true, false, List, [], ◌∷◌, ◌++◌, length, map, Option, Some, None, refl, sym, ap, subst, ◌∙◌, append_assoc, arith}
+use Rattle.std.proofs.Common.{◌≡◌, ℕ, ◌+◌, ◌≤◌, Bool, true, false, List, [], ◌∷◌, ◌++◌, length, map, refl, sym, ap, subst, ◌∙◌, append_assoc, arith}
 use Rattle.loop_core.specs.declared.nest.Item.{Item}
 use Rattle.loop_core.specs.declared.nest.Item.TheOpen.{Item-F}
 use Rattle.loop_core.specs.declared.nest.Item.TheViews.{roll-Item}
@@ -9,16 +9,14 @@ use Rattle.loop_core.specs.Depth.{greatest, depth_step, depth, body_depth}
 use Rattle.loop_lines.specs.declared.line.Line.{Line}
 use Rattle.loop_lines.specs.declared.line.Line.TheVariants as lines
 use Rattle.loop_syntax.specs.declared.numbered.Numbered.{Numbered}
-use Rattle.loop_syntax.specs.declared.items.Head.{Head}
 use Rattle.loop_syntax.specs.declared.items.Head.TheVariants as heads
 use Rattle.loop_syntax.specs.declared.scope.Block.{Block}
 use Rattle.loop_syntax.specs.declared.scope.Block.TheVariants.{Repeated, Guarded}
-use Rattle.loop_syntax.specs.Scope.{Scope, empty, variables, outer_blocks, scope_behind, scope_after}
+use Rattle.loop_syntax.specs.Scope.{Scope, empty, variables, outer_blocks, scope_behind}
 use Rattle.loop_syntax.specs.Resolved.{mark}
 use Rattle.loop_syntax.specs.Nesting.{Mark, Opens, Sets, Ends, joined, marks_step, item_marks, marks}
-use Rattle.loop_syntax.specs.Stages.{Stage, Above, Within, Behind, stage_above, stage_within, stage_after, stage_at_end, AreNested, AreFew}
-use Rattle.loop_syntax.specs.TextNest.{gathered, body_marks, IsNestOf}
-use Rattle.loop_syntax.proofs.StageLaws.{nested_next}
+use Rattle.loop_syntax.specs.Stages.{Above, Within, AreNested, AreFew}
+use Rattle.loop_syntax.specs.TextNest.{gathered, IsNestOf}
 
 -- whether each of the open blocks is a loop, the innermost first
 abbrev loops : List Bool → ℕ

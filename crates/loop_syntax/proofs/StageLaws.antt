@@ -4,7 +4,7 @@ use Rattle.loop_lines.specs.declared.line.Line.{Line}
 use Rattle.loop_lines.specs.declared.line.Line.TheVariants as lines
 use Rattle.loop_lines.specs.declared.place.Place.{Place}
 use Rattle.loop_lines.specs.declared.place.Place.TheVariants as places
-use Rattle.loop_lines.specs.Reading.{◌>>=◌, or_else}
+use Rattle.loop_lines.specs.Reading.{or_else}
 use Rattle.loop_lines.specs.Fitting.{text_line, heading_after, body_after, place_after, moved, next_place, ending, misfit}
 use Rattle.loop_lines.proofs.TermLaws.{bind_some, some_is}
 use Rattle.loop_syntax.specs.declared.numbered.Numbered.{Numbered}

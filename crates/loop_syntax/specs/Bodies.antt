@@ -1,5 +1,5 @@
 -- What the lines so far are of the outer loop.
-use Rattle.std.specs.Prelude.{◌≡◌, ℕ, List, [], ◌∷◌, ◌++◌, length, Option, Some, None}
+use Rattle.std.specs.Prelude.{◌≡◌, ℕ, List, [], ◌∷◌, ◌++◌, length, Option, Some}
 use Rattle.loop_lines.specs.declared.line.Line.{Line}
 use Rattle.loop_syntax.specs.declared.body.Body.{Body}
 use Rattle.loop_syntax.specs.declared.body.Body.TheVariants as bodies

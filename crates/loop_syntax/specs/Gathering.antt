@@ -1,5 +1,5 @@
 -- What lines give, one after another.
-use Rattle.std.specs.Prelude.{◌≡◌, List, [], ◌∷◌, ◌++◌}
+use Rattle.std.specs.Prelude.{◌≡◌, [], ◌∷◌, ◌++◌}
 use Rattle.loop_core.specs.declared.nest.Nest.{Nest}
 use Rattle.loop_syntax.specs.declared.numbered.Numbered.{Numbered}
 use Rattle.loop_syntax.specs.declared.build.Gathered.{Gathered}

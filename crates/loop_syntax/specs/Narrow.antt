@@ -1,11 +1,7 @@
 -- Scopes whose numbers are small enough for those of a nest.
-use Rattle.std.specs.Prelude.{ℕ, ◌<◌, ◌≤◌, List, [], ◌∷◌}
+use Rattle.std.specs.Prelude.{ℕ, ◌<◌, List}
 use Rattle.loop_lines.specs.declared.tree.ArrayName.{ArrayName}
-use Rattle.loop_syntax.specs.declared.scope.Meaning.{Meaning}
-use Rattle.loop_syntax.specs.declared.scope.Meaning.TheVariants as meanings
-use Rattle.loop_syntax.specs.declared.scope.Known.{Known}
-use Rattle.loop_syntax.specs.declared.numbered.Numbered.{Numbered}
-use Rattle.loop_syntax.specs.Scope.{Scope, meaning_of, scope_after, use_of, variables}
+use Rattle.loop_syntax.specs.Scope.{Scope, meaning_of, use_of}
 use Rattle.loop_syntax.specs.Resolved.{number_of, loop_line}
 
 -- array numbers have 8 bits, and lines have 16

@@ -1,5 +1,5 @@
 -- Lines with their names resolved: arrays by their numbers, variables by the lines of their loops.
-use Rattle.std.specs.Prelude.{ℕ, List, [], ◌∷◌, Option, Some, None}
+use Rattle.std.specs.Prelude.{ℕ, List, [], ◌∷◌, Option, Some}
 use Rattle.wave_base.specs.declared.types.ArrayId.{ArrayId}
 use Rattle.loop_core.specs.declared.decl.Decl.{Decl}
 use Rattle.loop_core.specs.declared.decl.DeclKind.TheVariants as kinds
@@ -29,8 +29,7 @@ use Rattle.loop_syntax.specs.declared.scope.Meaning.TheVariants as meanings
 use Rattle.loop_syntax.specs.declared.scope.ArrayUse.{ArrayUse}
 use Rattle.loop_syntax.specs.declared.scope.ArrayUse.TheVariants as uses
 use Rattle.loop_syntax.specs.declared.items.Head.TheVariants as heads
-use Rattle.loop_syntax.specs.declared.numbered.Numbered.{Numbered}
-use Rattle.loop_syntax.specs.Scope.{Scope, meaning_of, scope_after, use_of}
+use Rattle.loop_syntax.specs.Scope.{Scope, meaning_of, use_of}
 use Rattle.loop_syntax.specs.Nesting.{Mark, Opens, Sets, Ends}
 
 -- the number of an array, and 0 where no array stands

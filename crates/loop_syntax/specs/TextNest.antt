@@ -4,7 +4,6 @@ use Rattle.std.specs.Option.{option_map}
 use Rattle.loop_core.specs.declared.decl.Decl.{Decl}
 use Rattle.loop_core.specs.declared.decl.PropDecl.{PropDecl}
 use Rattle.loop_core.specs.declared.nest.Nest.{Nest}
-use Rattle.loop_lines.specs.Reading.{or_else}
 use Rattle.loop_lines.specs.Words.{either}
 use Rattle.loop_lines.specs.Fitting.{misfit, start}
 use Rattle.loop_syntax.specs.declared.refusal.LoopRefusal.{LoopRefusal}
