@@ -22,7 +22,6 @@ use Rattle.loop_lines.specs.Lines.{WrittenLine, line, line_of, IsLine}
 use Rattle.loop_lines.proofs.LineLaws.{line_sound}
 use Rattle.loop_lines.specs.Fitting.{is_skipped, formed, text_line}
 
-
 abbrev PlainToken : Token → Type 0
 PlainToken (tokens.Name name) = is_plain name ≡ true
 PlainToken _ = Unit {0}

@@ -21,7 +21,7 @@ use std::alloc::Global;
 use wave_base::types::Memory;
 
 /// The text of a nest, whether it is one of the language or not.
-pub fn bytes_of(alloc: Global, nest: &Nest) -> Result<Vec<u8>, Memory>
+fn bytes_of(alloc: Global, nest: &Nest) -> Result<Vec<u8>, Memory>
     ensures { IfOk result (λ text. text.items ≡ nest_text nest.now) }
 {
     let mut text = Vec::new(alloc);

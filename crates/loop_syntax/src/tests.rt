@@ -1,5 +1,5 @@
 // Texts that are read and printed again, and texts that are refused, by hand.
-use crate::print::bytes_of;
+use crate::print::print;
 use crate::read::read;
 use crate::refusal::{LimitKind, LoopRefusal, NameKind};
 use loop_core::nest::Nest;
@@ -14,9 +14,12 @@ fn answer(alloc: Global, text: &[u8]) -> Result<Result<Nest, LoopRefusal>, Fail>
 }
 
 fn shown(alloc: Global, text: &[u8]) -> Result<Vec<u8>, Fail> {
-    match answer(alloc, text)? {
-        Ok(nest) => match bytes_of(alloc, &nest) {
-            Ok(text) => Ok(text),
+    if text.len() > 1_000_000 {
+        return Err("the text is too long".into());
+    }
+    match read(alloc, text) {
+        Ok(nest) => match print(alloc, &nest) {
+            Ok(text) => Ok(text.into_bytes()),
             Err(_) => Err("memory".into()),
         },
         Err(_) => Err("the text is refused".into()),
