@@ -16,7 +16,8 @@ pub fn csr(alloc: Global, t: &Triples) -> Result<Compressed, Memory>
     requires square { t.now.columns ≡ t.now.rows }
     requires few { length t.now.entries ≤ 2 ^ 24 }
     requires inside { All (λ e. (e.0 < t.now.rows) × (e.1 < t.now.columns)) t.now.entries }
-    ensures { IfOk result (λ m. AreArrays t.now.rows t.now.entries m) }
+    ensures arrays { IfOk result (λ m. AreArrays t.now.rows t.now.entries m) }
+    ensures few { IfOk result (λ m. length m.index ≤ length t.now.entries) }
 {
     compress(alloc, Axis::Row, t.rows, t.entries.as_slice())
 }
@@ -26,7 +27,8 @@ pub fn csc(alloc: Global, t: &Triples) -> Result<Compressed, Memory>
     requires square { t.now.columns ≡ t.now.rows }
     requires few { length t.now.entries ≤ 2 ^ 24 }
     requires inside { All (λ e. (e.0 < t.now.rows) × (e.1 < t.now.columns)) t.now.entries }
-    ensures { IfOk result (λ m. AreArrays t.now.rows (map flipped t.now.entries) m) }
+    ensures arrays { IfOk result (λ m. AreArrays t.now.rows (map flipped t.now.entries) m) }
+    ensures few { IfOk result (λ m. length m.index ≤ length t.now.entries) }
 {
     compress(alloc, Axis::Column, t.rows, t.entries.as_slice())
 }

@@ -105,7 +105,8 @@ pub fn compress(
 ) -> Result<Compressed, Memory>
     requires few { length entries.now ≤ 2 ^ 24 }
     requires inside { Inside n entries.now }
-    ensures { IfOk result (λ m. FirstRows n n (map (turned axis) entries.now) m.ptr m.index m.diag m.val) }
+    ensures arrays { IfOk result (λ m. FirstRows n n (map (turned axis) entries.now) m.ptr m.index m.diag m.val) }
+    ensures few { IfOk result (λ m. length m.index ≤ length entries.now) }
 {
     let numbers = by_place(alloc, axis, n, entries)?;
     let mut ptr = Numbers::with_room(alloc, n as usize + 1)?;

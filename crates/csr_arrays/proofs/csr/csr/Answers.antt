@@ -11,5 +11,5 @@ compress-requires-clause-inside c =
     subst (λ (l : List Triple). Inside c.args.t.now.rows l) (sym c.as_slice.ensures)
     (subst (λ (n : ℕ). All (λ (e : Triple). (e.0 < c.args.t.now.rows) × (e.1 < n)) c.args.t.now.entries) c.requires.square c.requires.inside)
 
-pub returns : goal.returns
-returns c = subst (λ (us : List Triple). IfOk c.compress.result (λ m. AreArrays c.args.t.now.rows us m)) (map-id c.args.t.now.entries) (rw (← c.as_slice.ensures) c.compress.ensures)
+pub returns-clause-arrays : goal.returns-clause-arrays
+returns-clause-arrays c = subst (λ (us : List Triple). IfOk c.compress.result (λ m. AreArrays c.args.t.now.rows us m)) (map-id c.args.t.now.entries) (rw (← c.as_slice.ensures) c.compress.ensures.arrays)
