@@ -1,0 +1,4 @@
+//! From pairs of dependent rows to a schedule that fits them.
+#![tactic(auto)]
+
+pub mod build;

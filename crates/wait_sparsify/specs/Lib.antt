@@ -1,0 +1,6 @@
+pub mod Attached
+pub mod Crossing
+pub mod Depends
+pub mod Numbered
+pub mod Survivors
+pub mod Written

@@ -1,0 +1,9 @@
+//! The waits that tasks on several workers need, and no others.
+#![tactic(auto)]
+
+mod attached;
+mod crossing;
+mod kept;
+mod numbered;
+mod sparsify;
+mod stamped;
