@@ -1,3 +1,4 @@
 pub mod Along
+pub mod Edges
 pub mod Grouped
 pub mod Sharing

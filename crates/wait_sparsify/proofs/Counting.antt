@@ -32,7 +32,7 @@ distinct_pairs (x ∷ xs) h zero (suc j) d l m = λ e. (
   h.0 (subst (λ y. In y xs) (sym e) c))
 distinct_pairs (x ∷ xs) h (suc i) (suc j) d l m = distinct_pairs xs h.1 i j d (omega (arith, l)) (omega (arith, m))
 
-distinct_map : {X Y : Type 0} (f : X → Y) (xs : List X) → ((x y : X) → In x xs → In y xs → f x ≡ f y → x ≡ y) → Distinct xs → Distinct (map f xs)
+pub distinct_map : {X Y : Type 0} (f : X → Y) (xs : List X) → ((x y : X) → In x xs → In y xs → f x ≡ f y → x ≡ y) → Distinct xs → Distinct (map f xs)
 distinct_map f [] inj h = tt
 distinct_map {X} f (x ∷ xs) inj h = (
   λ i. (
@@ -54,7 +54,7 @@ distinct_climbing low [] c = tt
 distinct_climbing low (r ∷ rows) c =
     (λ i. (let l = Climbing-in (r.0 + 1) rows r c.1 i in omega (arith, l)), distinct_climbing (r.0 + 1) rows c.1)
 
-distinct_turned : (first : ℕ) (lists : List (List RowId)) → ((a : ℕ) → Climbing 0 (get_or lists a [])) → Distinct (turned first lists)
+pub distinct_turned : (first : ℕ) (lists : List (List RowId)) → ((a : ℕ) → Climbing 0 (get_or lists a [])) → Distinct (turned first lists)
 distinct_turned first [] c = tt
 distinct_turned first (rows ∷ lists) c =
     let f : RowId → ℕ × RowId = λ (r : RowId). (r.0, row first) in
@@ -67,7 +67,7 @@ distinct_turned first (rows ∷ lists) c =
         let g : first + 1 + t.0 ≡ x.1.0 = ap (λ (r : RowId). r.0) t.1 in
         omega (arith, e, g))
 
-length-turned : (first : ℕ) (lists : List (List RowId)) → length (turned first lists) ≡ sum_by length lists
+pub length-turned : (first : ℕ) (lists : List (List RowId)) → length (turned first lists) ≡ sum_by length lists
 length-turned first [] = refl
 length-turned first (rows ∷ lists) =
     let f : RowId → ℕ × RowId = λ (r : RowId). (r.0, row first) in
