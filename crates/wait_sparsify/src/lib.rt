@@ -5,5 +5,5 @@ mod attached;
 mod crossing;
 mod kept;
 mod numbered;
-mod sparsify;
+pub mod sparsify;
 mod stamped;
