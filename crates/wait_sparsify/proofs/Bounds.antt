@@ -68,59 +68,58 @@ module _ (graph : List (List RowId)) (lists : List (List RowTask)) (graph_is : I
       omega (arith, e, listed (rows_from lists) m.list m.j m.j_in)
 
 module _ (graph : List (List RowId)) (lists : List (List RowTask)) (cross : List (List RowId)) (s : Setting graph lists cross) where
-  abbrev owners : List ℕ
-  owners = owners_from 0 lists
-
-  -- what the sweep makes
-  abbrev pub kept_of : List (List RowId)
-  kept_of = kept_lists cross (owners_from 0 lists) 0 (replicate (length cross) 0) (replicate (length cross) 0) cross
-
   pub cross_within : All (λ (list : List RowId). All (λ (u : RowId). u.0 < length cross) list) cross
   cross_within = all_lists (λ (u : RowId). u.0 < length cross) cross (λ a u h. (is_list graph lists cross s).members a u h)
 
-  kept_at : (a : ℕ) → a < length cross → AreKeptAt cross (owners_from 0 lists) a (get_or kept_of a [])
-  kept_at a h =
-      let z : 0 + a ≡ a = omega arith in
-      let k = kept_lists-at cross (owners_from 0 lists) (is_list graph lists cross s) 0 (replicate (length cross) 0) (replicate (length cross) 0) cross (stamped_none cross (owners_from 0 lists)) (λ b. (let y : b ≡ 0 + b = omega arith in ap (λ k. get_or cross k []) y)) (omega arith) a h in
-      subst (λ (t : ℕ). AreKeptAt cross (owners_from 0 lists) t (get_or kept_of a [])) z k
+  -- what the sweep makes
+  module _ (owners : List ℕ) (kept : List (List RowId)) (eo : owners ≡ owners_from 0 lists) (ek : kept ≡ kept_lists cross owners 0 (replicate (length cross) 0) (replicate (length cross) 0) cross) where
+    swept : kept ≡ kept_lists cross (owners_from 0 lists) 0 (replicate (length cross) 0) (replicate (length cross) 0) cross
+    swept = ek ∙ ap (λ (o : List ℕ). kept_lists cross o 0 (replicate (length cross) 0) (replicate (length cross) 0) cross) eo
 
-  pub kept_within : All (λ (list : List RowId). All (λ (u : RowId). u.0 < length (owners_from 0 lists)) list) kept_of
-  kept_within = all_lists (λ (u : RowId). u.0 < length (owners_from 0 lists)) kept_of (λ a u h.
-      let l = listed kept_of a u h in
-      let m : a < length cross = omega (arith, l, length-kept_lists cross (owners_from 0 lists) 0 (replicate (length cross) 0) (replicate (length cross) 0) cross) in
-      let k = ((kept_at a m).0 u.0).0 h in
-      omega (arith, (is_list graph lists cross s).members a u k.0, s.made.each_row, length-owners 0 lists))
+    pub swept_long : length kept ≡ length cross
+    swept_long = ap length ek ∙ length-kept_lists cross owners 0 (replicate (length cross) 0) (replicate (length cross) 0) cross
 
-  pub has_kept : HasKeptWaits (Depends graph) lists (attached (owners_from 0 lists) (places_from lists) kept_of 0 lists)
-  has_kept = record {
-    same_tasks = same_tasks (owners_from 0 lists) (places_from lists) kept_of 0 lists;
-    waits = λ place task h.
-        let a = attached-at (owners_from 0 lists) (places_from lists) kept_of 0 lists place.worker place.at task h in
-        let hp = has-from lists place a.0 a.1 in
-        let z : 0 + num lists place ≡ num lists place = omega arith in
-        let l : num lists place < length cross = omega (arith, number_below lists place.worker place.at hp, s.made.each_row) in
-        let e : task.waits ≡ waits_for (owners_from 0 lists) (places_from lists) (get_or kept_of (num lists place) []) = ap (λ (t : Task). t.waits) a.2 ∙ ap (λ (n : ℕ). waits_for (owners_from 0 lists) (places_from lists) (get_or kept_of n [])) z in
-        subst (AreKeptWaits (Depends graph) lists place) (sym e) (are_kept graph lists cross s place hp (get_or kept_of (num lists place) []) (kept_at (num lists place) l));
-  }
+    pub swept_at : (a : ℕ) → a < length cross → AreKeptAt cross (owners_from 0 lists) a (get_or kept a [])
+    swept_at a h =
+        let z : 0 + a ≡ a = omega arith in
+        let k = kept_lists-at cross (owners_from 0 lists) (is_list graph lists cross s) 0 (replicate (length cross) 0) (replicate (length cross) 0) cross (stamped_none cross (owners_from 0 lists)) (λ b. (let y : b ≡ 0 + b = omega arith in ap (λ k. get_or cross k []) y)) (omega arith) a h in
+        let k' = subst (λ (t : ℕ). AreKeptAt cross (owners_from 0 lists) t (get_or (kept_lists cross (owners_from 0 lists) 0 (replicate (length cross) 0) (replicate (length cross) 0) cross) a [])) z k in
+        subst (λ (ks : List (List RowId)). AreKeptAt cross (owners_from 0 lists) a (get_or ks a [])) (sym swept) k'
+
+  -- what any lists give that have the tasks to wait for
+  module _ (kept : List (List RowId)) (long : length kept ≡ length cross) (kept_at : (a : ℕ) → a < length cross → AreKeptAt cross (owners_from 0 lists) a (get_or kept a [])) where
+    kept_within : All (λ (list : List RowId). All (λ (u : RowId). u.0 < length (owners_from 0 lists)) list) kept
+    kept_within = all_lists (λ (u : RowId). u.0 < length (owners_from 0 lists)) kept (λ a u h.
+        let l = listed kept a u h in
+        let m : a < length cross = omega (arith, l, long) in
+        let k = ((kept_at a m).0 u.0).0 h in
+        omega (arith, (is_list graph lists cross s).members a u k.0, s.made.each_row, length-owners 0 lists))
+
+    has_kept : HasKeptWaits (Depends graph) lists (attached (owners_from 0 lists) (places_from lists) kept 0 lists)
+    has_kept = record {
+      same_tasks = same_tasks (owners_from 0 lists) (places_from lists) kept 0 lists;
+      waits = λ place task h.
+          let a = attached-at (owners_from 0 lists) (places_from lists) kept 0 lists place.worker place.at task h in
+          let hp = has-from lists place a.0 a.1 in
+          let z : 0 + num lists place ≡ num lists place = omega arith in
+          let l : num lists place < length cross = omega (arith, number_below lists place.worker place.at hp, s.made.each_row) in
+          let e : task.waits ≡ waits_for (owners_from 0 lists) (places_from lists) (get_or kept (num lists place) []) = ap (λ (t : Task). t.waits) a.2 ∙ ap (λ (n : ℕ). waits_for (owners_from 0 lists) (places_from lists) (get_or kept n [])) z in
+          subst (AreKeptWaits (Depends graph) lists place) (sym e) (are_kept graph lists cross s place hp (get_or kept (num lists place) []) (kept_at (num lists place) l));
+    }
+
+    pub kept_inside : (owners : List ℕ) → owners ≡ owners_from 0 lists → All (λ (list : List RowId). All (λ (u : RowId). u.0 < length owners) list) kept
+    kept_inside owners eo =
+        subst (λ (o : List ℕ). All (λ (list : List RowId). All (λ (u : RowId). u.0 < length o) list) kept) (sym eo) kept_within
+
+    pub has_waits : (owners places : List ℕ) (now : List (List RowTask)) (workers : List (List Task)) → owners ≡ owners_from 0 lists → places ≡ places_from lists → now ≡ lists → workers ≡ attached owners places kept 0 now → HasKeptWaits (Depends graph) lists workers
+    has_waits owners places now workers eo ep en ew =
+        let q : attached owners places kept 0 now ≡ attached (owners_from 0 lists) (places_from lists) kept 0 lists = λ x. attached (eo x) (ep x) kept 0 (en x) in
+        subst (HasKeptWaits (Depends graph) lists) (sym (ew ∙ q)) has_kept
 
 -- what the calls give, in the words of the tasks that were handed in
-pub all_pairs : (graph : List (List RowId)) (lists : List (List RowTask)) (owners tasks : List ℕ) (n : ℕ) (rows : List (List RowId)) (pairs : List (RowId × RowId)) → owners ≡ owners_from 0 lists → tasks ≡ written_lists 0 rows (replicate n 0) → n ≡ length graph → rows ≡ rows_from lists → pairs ≡ crossing_lists graph owners tasks 0 rows → pairs ≡ crossing_lists graph (owners_from 0 lists) (written_lists 0 (rows_from lists) (replicate (length graph) 0)) 0 (rows_from lists)
-all_pairs graph lists owners tasks n rows pairs eo et en er ep =
+pub all_pairs : (graph : List (List RowId)) (lists : List (List RowTask)) (owners tasks : List ℕ) (n : ℕ) (rows : List (List RowId)) (made : List (RowId × RowId)) → owners ≡ owners_from 0 lists → tasks ≡ written_lists 0 rows (replicate n 0) → n ≡ length graph → rows ≡ rows_from lists → made ≡ crossing_lists graph owners tasks 0 rows → made ≡ crossing_lists graph (owners_from 0 lists) (written_lists 0 (rows_from lists) (replicate (length graph) 0)) 0 (rows_from lists)
+all_pairs graph lists owners tasks n rows made eo et en er ep =
     let t : written_lists 0 rows (replicate n 0) ≡ written_lists 0 (rows_from lists) (replicate (length graph) 0) = λ x. written_lists 0 (er x) (replicate (en x) 0) in
     let et' : tasks ≡ written_lists 0 (rows_from lists) (replicate (length graph) 0) = et ∙ t in
     let q : crossing_lists graph owners tasks 0 rows ≡ crossing_lists graph (owners_from 0 lists) (written_lists 0 (rows_from lists) (replicate (length graph) 0)) 0 (rows_from lists) = λ x. crossing_lists graph (eo x) (et' x) 0 (er x) in
     ep ∙ q
-
-module _ (graph : List (List RowId)) (lists : List (List RowTask)) (cross : List (List RowId)) (s : Setting graph lists cross) (owners places : List ℕ) (kept : List (List RowId)) (now : List (List RowTask)) (eo : owners ≡ owners_from 0 lists) (ep : places ≡ places_from lists) (ek : kept ≡ kept_lists cross owners 0 (replicate (length cross) 0) (replicate (length cross) 0) cross) (en : now ≡ lists) where
-  kept_same : kept ≡ kept_of graph lists cross s
-  kept_same = ek ∙ ap (λ (o : List ℕ). kept_lists cross o 0 (replicate (length cross) 0) (replicate (length cross) 0) cross) eo
-
-  pub kept_inside : All (λ (list : List RowId). All (λ (u : RowId). u.0 < length owners) list) kept
-  kept_inside =
-      subst (λ (o : List ℕ). All (λ (list : List RowId). All (λ (u : RowId). u.0 < length o) list) kept) (sym eo)
-      (subst (λ (ks : List (List RowId)). All (λ (list : List RowId). All (λ (u : RowId). u.0 < length (owners_from 0 lists)) list) ks) (sym kept_same) (kept_within graph lists cross s))
-
-  pub has_waits : (workers : List (List Task)) → workers ≡ attached owners places kept 0 now → HasKeptWaits (Depends graph) lists workers
-  has_waits workers ew =
-      let q : attached owners places kept 0 now ≡ attached (owners_from 0 lists) (places_from lists) (kept_of graph lists cross s) 0 lists = λ x. attached (eo x) (ep x) (kept_same x) 0 (en x) in
-      subst (HasKeptWaits (Depends graph) lists) (sym (ew ∙ q)) (has_kept graph lists cross s)

@@ -7,6 +7,8 @@ pub mod Keeping
 pub mod Numbering
 pub mod Ordering
 pub mod Places
+pub mod Plainly
+pub mod Searching
 pub mod Skips
 pub mod Stamping
 pub mod Surviving

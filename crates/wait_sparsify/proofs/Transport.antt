@@ -28,7 +28,15 @@ pub record Setting (graph : List (List RowId)) (lists : List (List RowTask)) (cr
   pub placed : ArePlaced (length graph) lists
   pub made : ArePredecessors (length (rows_from lists)) (crossing_lists graph (owners_from 0 lists) (written_lists 0 (rows_from lists) (replicate (length graph) 0)) 0 (rows_from lists)) cross
 
-module _ (graph : List (List RowId)) (lists : List (List RowTask)) (cross : List (List RowId)) (s : Setting graph lists cross) where
+-- what the calls gave, for the tasks that were handed in
+pub setting : (graph : List (List RowId)) (lists now : List (List RowTask)) (cross : List (List RowId)) → now ≡ lists → ArePlaced (length graph) lists → IsGraph graph → ArePredecessors (length (rows_from now)) (crossing_lists graph (owners_from 0 now) (written_lists 0 (rows_from now) (replicate (length graph) 0)) 0 (rows_from now)) cross → Setting graph lists cross
+setting graph lists now cross e placed is made = record {
+  graph_is = is;
+  placed = placed;
+  made = subst (λ (ls : List (List RowTask)). ArePredecessors (length (rows_from ls)) (crossing_lists graph (owners_from 0 ls) (written_lists 0 (rows_from ls) (replicate (length graph) 0)) 0 (rows_from ls)) cross) e made;
+}
+
+module _ (graph : List (List RowId)) (lists : List (List RowTask)) (graph_is : IsGraph graph) (placed : ArePlaced (length graph) lists) where
   abbrev owners : List ℕ
   owners = owners_from 0 lists
 
@@ -50,36 +58,59 @@ module _ (graph : List (List RowId)) (lists : List (List RowTask)) (cross : List
     pub dep : In i (before graph j.0)
     pub differ : get_or (owners_from 0 lists) k 0 ≡ get_or (owners_from 0 lists) l 0 → ⊥
 
-  pub cross_num : (k l : ℕ) → In (row k) (get_or cross l []) → CrossNum k l
-  cross_num k l h =
-      let c = In-to (get_or cross l []) (row k) h in
-      let p = (s.made.pairs_alone (row k) (row l)).0 c in
+  pub pair_num : (k l : ℕ) → Contains (crossing_lists graph (owners_from 0 lists) (written_lists 0 (rows_from lists) (replicate (length graph) 0)) 0 (rows_from lists)) (row k, row l) → CrossNum k l
+  pair_num k l p =
       let m = In-lists graph owners tasks 0 (rows_from lists) (row k, row l) (In-from pairs (row k, row l) p) in
       let e0 : k ≡ get_or tasks m.i.0 0 = ap (λ (q : RowId × RowId). q.0.0) m.pair.0 in
       let e1 : l ≡ 0 + m.list = ap (λ (q : RowId × RowId). q.1.0) m.pair.0 in
       let e2 : m.list ≡ l = omega (arith, e1) in
-      let below = row_below (length graph) lists s.placed m.list m.j m.j_in in
-      let lesser : m.i.0 < m.j.0 = All-contains (λ (i : RowId). i.0 < m.j.0) (before graph m.j.0) m.i (s.graph_is.1 m.j.0) (In-to (before graph m.j.0) m.i m.i_in) in
-      let a = row_stands (length graph) lists s.placed m.i (omega (arith, below, lesser)) in
-      let t : get_or tasks m.i.0 0 ≡ a.0 = task_is (length graph) lists s.placed a.0 m.i a.1 in
+      let below = row_below (length graph) lists placed m.list m.j m.j_in in
+      let lesser : m.i.0 < m.j.0 = All-contains (λ (i : RowId). i.0 < m.j.0) (before graph m.j.0) m.i (graph_is.1 m.j.0) (In-to (before graph m.j.0) m.i m.i_in) in
+      let a = row_stands (length graph) lists placed m.i (omega (arith, below, lesser)) in
+      let t : get_or tasks m.i.0 0 ≡ a.0 = task_is (length graph) lists placed a.0 m.i a.1 in
       let e3 : a.0 ≡ k = sym t ∙ sym e0 in
+      let apart : own k ≡ own l → ⊥ = λ q. (
+        let x : own (get_or tasks m.i.0 0) ≡ own k = ap own (sym e0) in
+        let y : own l ≡ own (0 + m.list) = ap own e1 in
+        let z : own (get_or tasks m.i.0 0) ≡ own (0 + m.list) = x ∙ (q ∙ y) in
+        m.pair.1 z) in
       record {
         j = m.j;
         i = m.i;
         j_in = subst (λ (q : ℕ). In m.j (get_or (rows_from lists) q [])) e2 m.j_in;
         i_in = subst (λ (q : ℕ). In m.i (get_or (rows_from lists) q [])) e3 a.1;
         dep = m.i_in;
-        differ = λ q. m.pair.1 (ap own (sym e0) ∙ q ∙ ap own e1);
+        differ = apart;
       }
 
-  pub num_cross : (k l : ℕ) → CrossNum k l → In (row k) (get_or cross l [])
-  num_cross k l c =
-      let t : get_or tasks c.i.0 0 ≡ k = task_is (length graph) lists s.placed k c.i c.i_in in
+  pub num_pair : (k l : ℕ) → CrossNum k l → Contains (crossing_lists graph (owners_from 0 lists) (written_lists 0 (rows_from lists) (replicate (length graph) 0)) 0 (rows_from lists)) (row k, row l)
+  num_pair k l c =
+      let t : get_or tasks c.i.0 0 ≡ k = task_is (length graph) lists placed k c.i c.i_in in
       let z : 0 + l ≡ l = omega arith in
-      let g = In-lists_to graph owners tasks 0 (rows_from lists) l c.j c.i c.j_in c.dep (λ q. c.differ (ap own (sym t) ∙ q ∙ ap own z)) in
+      let apart : own (get_or tasks c.i.0 0) ≡ own (0 + l) → ⊥ = λ q. (
+        let x : own k ≡ own (get_or tasks c.i.0 0) = ap own (sym t) in
+        let y : own (0 + l) ≡ own l = ap own z in
+        let w : own k ≡ own l = x ∙ (q ∙ y) in
+        c.differ w) in
+      let g = In-lists_to graph owners tasks 0 (rows_from lists) l c.j c.i c.j_in c.dep apart in
       let e : (row (get_or tasks c.i.0 0), row (0 + l)) ≡ (row k, row l) = λ x. (row (t x), row (z x)) in
       let g' = subst (λ (q : RowId × RowId). In q pairs) e g in
-      In-from (get_or cross l []) (row k) ((s.made.pairs_alone (row k) (row l)).1 (In-to pairs (row k, row l) g'))
+      In-to pairs (row k, row l) g'
+
+module _ (graph : List (List RowId)) (lists : List (List RowTask)) (cross : List (List RowId)) (s : Setting graph lists cross) where
+  abbrev own_of : ℕ → ℕ
+  own_of k = get_or (owners_from 0 lists) k 0
+
+  abbrev Num : ℕ → ℕ → Type 0
+  Num k l = CrossNum graph lists s.graph_is s.placed k l
+
+  pub cross_num : (k l : ℕ) → In (row k) (get_or cross l []) → CrossNum graph lists s.graph_is s.placed k l
+  cross_num k l h =
+      pair_num graph lists s.graph_is s.placed k l ((s.made.pairs_alone (row k) (row l)).0 (In-to (get_or cross l []) (row k) h))
+
+  pub num_cross : (k l : ℕ) → CrossNum graph lists s.graph_is s.placed k l → In (row k) (get_or cross l [])
+  num_cross k l c =
+      In-from (get_or cross l []) (row k) ((s.made.pairs_alone (row k) (row l)).1 (num_pair graph lists s.graph_is s.placed k l c))
 
   pub is_list : IsCrossList cross (owners_from 0 lists)
   is_list = record {
@@ -92,7 +123,7 @@ module _ (graph : List (List RowId)) (lists : List (List RowTask)) (cross : List
     apart = λ l u h. (cross_num u.0 l h).differ;
   }
 
-  owner_of : (p : Place) → Has lists p.worker p.at → own (num lists p) ≡ p.worker
+  owner_of : (p : Place) → Has lists p.worker p.at → own_of (num lists p) ≡ p.worker
   owner_of p h = let z : 0 + p.worker ≡ p.worker = omega arith in owner_at 0 lists p.worker p.at h ∙ z
 
   pub cross_place : (p q : Place) → Has lists p.worker p.at → Has lists q.worker q.at → In (row (num lists p)) (get_or cross (num lists q) []) → IsCross (Depends graph) lists p q
@@ -177,9 +208,9 @@ module _ (graph : List (List RowId)) (lists : List (List RowTask)) (cross : List
         let kb = (kept.0 b.0).0 ib in
         let top = is_list.members (num lists q) b kb.0 in
         let r = is_list.rises a.0 b.0 (omega (arith, lt)) top in
-        let ne : own a.0 ≡ own b.0 → ⊥ = λ e. ka.1 b.0 (inr (e, lt, top)) (inl kb.0) in
-        let ea : (get_or (map f ks) i d).worker ≡ own a.0 = ap (λ (w : Wait). w.worker) (get_or-map f ks i row_zero d (omega (arith, l, n))) in
-        let eb : (get_or (map f ks) j d).worker ≡ own b.0 = ap (λ (w : Wait). w.worker) (get_or-map f ks j row_zero d n) in
+        let ne : own_of a.0 ≡ own_of b.0 → ⊥ = λ e. ka.1 b.0 (inr (e, lt, top)) (inl kb.0) in
+        let ea : (get_or (map f ks) i d).worker ≡ own_of a.0 = ap (λ (w : Wait). w.worker) (get_or-map f ks i row_zero d (omega (arith, l, n))) in
+        let eb : (get_or (map f ks) j d).worker ≡ own_of b.0 = ap (λ (w : Wait). w.worker) (get_or-map f ks j row_zero d n) in
         omega (arith, ea, eb, r, ne)
 
     some_task : (wait : Wait) → Contains (map f ks) wait → 1 ≤ wait.count
@@ -192,13 +223,13 @@ module _ (graph : List (List RowId)) (lists : List (List RowTask)) (cross : List
     wait_kept first c =
         let m = In-map f ks (record { worker = first.worker; count = first.at + 1 }) (In-from (map f ks) (record { worker = first.worker; count = first.at + 1 }) c) in
         let u = m.0 in
-        let ew : own u.0 ≡ first.worker = ap (λ (w : Wait). w.worker) m.1 in
+        let ew : own_of u.0 ≡ first.worker = ap (λ (w : Wait). w.worker) m.1 in
         let ec : get_or (places_from lists) u.0 0 + 1 ≡ first.at + 1 = ap (λ (w : Wait). w.count) m.1 in
         let k = (kept.0 u.0).0 m.2 in
         let top = is_list.members (num lists q) u k.0 in
         let w = has_place lists u.0 (omega (arith, top, s.made.each_row)) in
         let r : Place = place w.0 w.1 in
-        let e1 : w.0 ≡ first.worker = sym (owner_of r w.2) ∙ ap own w.3 ∙ ew in
+        let e1 : w.0 ≡ first.worker = sym (owner_of r w.2) ∙ ap own_of w.3 ∙ ew in
         let e3 : w.1 ≡ get_or (places_from lists) u.0 0 = sym (place_at lists w.0 w.1 w.2) ∙ ap (λ k. get_or (places_from lists) k 0) w.3 in
         let e2 : w.1 ≡ first.at = omega (arith, e3, ec) in
         let e : r ≡ first = λ x. record { worker = e1 x; at = e2 x } in

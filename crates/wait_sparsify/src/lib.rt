@@ -5,5 +5,6 @@ mod attached;
 mod crossing;
 mod kept;
 mod numbered;
+pub mod plain;
 pub mod sparsify;
 mod stamped;

@@ -8,19 +8,11 @@ use Rattle.wait_sparsify.specs.Numbered.{owners_from, places_from, rows_from}
 use Rattle.wait_sparsify.specs.Survivors.{kept_lists}
 use Rattle.wait_sparsify.specs.Written.{written_lists}
 use Rattle.wait_sparsify.proofs.Numbering.{length-owners, length-places}
-use Rattle.wait_sparsify.proofs.Bounds.{cross_within, kept_inside, has_waits}
+use Rattle.wait_sparsify.proofs.Bounds.{cross_within, swept_long, swept_at, kept_inside, has_waits}
 use Rattle.wait_sparsify.proofs.Counting.{counts_cross}
 use Rattle.wait_sparsify.proofs.Ordering.{fits}
-use Rattle.wait_sparsify.proofs.Transport.{Setting}
+use Rattle.wait_sparsify.proofs.Transport.{setting}
 use Rattle.wait_sparsify.proofs.sparsify.sparsify.Goals as goal
-
--- what the calls gave, for the tasks that were handed in
-setting : (graph : List (List RowId)) (lists now : List (List RowTask)) (cross : List (List RowId)) → now ≡ lists → ArePlaced (length graph) lists → IsGraph graph → ArePredecessors (length (rows_from now)) (crossing_lists graph (owners_from 0 now) (written_lists 0 (rows_from now) (replicate (length graph) 0)) 0 (rows_from now)) cross → Setting graph lists cross
-setting graph lists now cross e placed is made = record {
-  graph_is = is;
-  placed = placed;
-  made = subst (λ (ls : List (List RowTask)). ArePredecessors (length (rows_from ls)) (crossing_lists graph (owners_from 0 ls) (written_lists 0 (rows_from ls) (replicate (length graph) 0)) 0 (rows_from ls)) cross) e made;
-}
 
 pub kept_of_each-requires-clause-owners : goal.kept_of_each-requires-clause-owners
 kept_of_each-requires-clause-owners c =
@@ -40,9 +32,9 @@ attach-requires-clause-owners c =
     let seats = c.in_ok-seats.seats in
     let s = setting graph lists c.as_slice-lists.result.now cross c.as_slice-lists.ensures c.requires c.in_ok-cross.ensures.graph c.in_ok-cross.ensures.cross in
     let eo : seats.owners.items ≡ owners_from 0 lists = c.in_ok-seats.ensures.owners ∙ ap (owners_from 0) c.as_slice-lists.ensures in
-    let ep : seats.places.items ≡ places_from lists = c.in_ok-seats.ensures.places ∙ ap places_from c.as_slice-lists.ensures in
     let ek : c.in_ok-kept.kept ≡ kept_lists cross seats.owners.items 0 (replicate (length cross) 0) (replicate (length cross) 0) cross = c.in_ok-kept.ensures ∙ ap (λ (o : List ℕ). kept_lists cross o 0 (replicate (length cross) 0) (replicate (length cross) 0) cross) c.as_slice-2.ensures.value in
-    kept_inside graph lists cross s seats.owners.items seats.places.items c.in_ok-kept.kept c.as_slice-lists.result.now eo ep ek c.as_slice-lists.ensures
+    let kept = c.in_ok-kept.kept in
+    kept_inside graph lists cross s kept (swept_long graph lists cross s seats.owners.items kept eo ek) (swept_at graph lists cross s seats.owners.items kept eo ek) seats.owners.items eo
 
 pub attach-requires-clause-places : goal.attach-requires-clause-places
 attach-requires-clause-places c =
@@ -58,7 +50,8 @@ returns c =
     let eo : seats.owners.items ≡ owners_from 0 lists = c.in_ok-seats.ensures.owners ∙ ap (owners_from 0) c.as_slice-lists.ensures in
     let ep : seats.places.items ≡ places_from lists = c.in_ok-seats.ensures.places ∙ ap places_from c.as_slice-lists.ensures in
     let ek : c.in_ok-kept.kept ≡ kept_lists cross seats.owners.items 0 (replicate (length cross) 0) (replicate (length cross) 0) cross = c.in_ok-kept.ensures ∙ ap (λ (o : List ℕ). kept_lists cross o 0 (replicate (length cross) 0) (replicate (length cross) 0) cross) c.as_slice-2.ensures.value in
-    let kept = has_waits graph lists cross s seats.owners.items seats.places.items c.in_ok-kept.kept c.as_slice-lists.result.now eo ep ek c.as_slice-lists.ensures c.in_ok-workers.workers c.in_ok-workers.ensures in
+    let lasting = c.in_ok-kept.kept in
+    let kept = has_waits graph lists cross s lasting (swept_long graph lists cross s seats.owners.items lasting eo ek) (swept_at graph lists cross s seats.owners.items lasting eo ek) seats.owners.items seats.places.items c.as_slice-lists.result.now c.in_ok-workers.workers eo ep c.as_slice-lists.ensures c.in_ok-workers.ensures in
     record {
       kept = kept;
       cross = subst (CountsCross (Depends graph) lists) (sym c.total.ensures) (counts_cross graph lists cross s);
