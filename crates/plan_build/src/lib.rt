@@ -2,3 +2,6 @@
 #![tactic(auto)]
 
 pub mod build;
+pub mod plain;
+#[cfg(test)]
+mod worked;

@@ -28,17 +28,17 @@ pub distinct_pairs : {X : Type 0} (xs : List X) → Distinct xs → AllPairs (λ
 distinct_pairs [] h i j d l m = absurd (omega (arith, m))
 distinct_pairs (x ∷ xs) h i zero d l m = absurd (omega (arith, l))
 distinct_pairs (x ∷ xs) h zero (suc j) d l m = λ e. (
-  let c = In-from xs (get_or xs j d) (Contains-get_or xs j d (omega (arith, m))) in
-  h.0 (subst (λ y. In y xs) (sym e) c))
+    let c = In-from xs (get_or xs j d) (Contains-get_or xs j d (omega (arith, m))) in
+    h.0 (subst (λ y. In y xs) (sym e) c))
 distinct_pairs (x ∷ xs) h (suc i) (suc j) d l m = distinct_pairs xs h.1 i j d (omega (arith, l)) (omega (arith, m))
 
 pub distinct_map : {X Y : Type 0} (f : X → Y) (xs : List X) → ((x y : X) → In x xs → In y xs → f x ≡ f y → x ≡ y) → Distinct xs → Distinct (map f xs)
 distinct_map f [] inj h = tt
 distinct_map {X} f (x ∷ xs) inj h = (
   λ i. (
-    let m = In-map f xs (f x) i in
-    let e = inj m.0 x (inr m.2) (inl refl) m.1 in
-    h.0 (subst (λ (y : X). In y xs) e m.2)),
+      let m = In-map f xs (f x) i in
+      let e = inj m.0 x (inr m.2) (inl refl) m.1 in
+      h.0 (subst (λ (y : X). In y xs) e m.2)),
   distinct_map f xs (λ a b i j. inj a b (inr i) (inr j)) h.1,
 )
 
@@ -61,11 +61,11 @@ distinct_turned first (rows ∷ lists) c =
     let here = distinct_map f rows (λ a b i j e. ap (λ (p : ℕ × RowId). row p.0) e) (distinct_climbing 0 rows (c zero)) in
     let rest = distinct_turned (first + 1) lists (λ a. c (suc a)) in
     distinct_append (map (λ (r : RowId). (r.0, row first)) rows) (turned (first + 1) lists) here rest (λ x i j.
-        let m = In-map f rows x i in
-        let t = In-turned (first + 1) lists x.0 x.1 j in
-        let e : first ≡ x.1.0 = ap (λ (p : ℕ × RowId). p.1.0) m.1 in
-        let g : first + 1 + t.0 ≡ x.1.0 = ap (λ (r : RowId). r.0) t.1 in
-        omega (arith, e, g))
+    let m = In-map f rows x i in
+    let t = In-turned (first + 1) lists x.0 x.1 j in
+    let e : first ≡ x.1.0 = ap (λ (p : ℕ × RowId). p.1.0) m.1 in
+    let g : first + 1 + t.0 ≡ x.1.0 = ap (λ (r : RowId). r.0) t.1 in
+    omega (arith, e, g))
 
 pub length-turned : (first : ℕ) (lists : List (List RowId)) → length (turned first lists) ≡ sum_by length lists
 length-turned first [] = refl

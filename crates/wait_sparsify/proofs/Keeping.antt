@@ -130,9 +130,9 @@ module _ (cross : List (List RowId)) (owners : List ℕ) (is : IsCrossList cross
       let t : Survives owners earlier worker beyond (task + 1) (length cross) is.rises (row u) firsts = record {
         listed = i;
         not_earlier = λ e. (
-          let r = s.comes u l (omega (arith, e)) in
-          let q : get_or owners r.0 0 ≡ get_or owners task 0 = omega (arith, r.2, e) in
-          lacks r.0 (inl r.3) (inr (q, r.1, within)));
+            let r = s.comes u l (omega (arith, e)) in
+            let q : get_or owners r.0 0 ≡ get_or owners task 0 = omega (arith, r.2, e) in
+            lacks r.0 (inl r.3) (inr (q, r.1, within)));
         not_between = λ e. elim (beyond-cases cross (task + 1) firsts between u) as (λ _. ⊥) [
           | inl b ↦ lacks b.0.0 (inl b.2) (inl b.1)
           | inr q ↦ omega (arith, e, q, s.low u)

@@ -70,10 +70,10 @@ module _ (graph : List (List RowId)) (lists : List (List RowTask)) (graph_is : I
       let t : get_or tasks m.i.0 0 ≡ a.0 = task_is (length graph) lists placed a.0 m.i a.1 in
       let e3 : a.0 ≡ k = sym t ∙ sym e0 in
       let apart : own k ≡ own l → ⊥ = λ q. (
-        let x : own (get_or tasks m.i.0 0) ≡ own k = ap own (sym e0) in
-        let y : own l ≡ own (0 + m.list) = ap own e1 in
-        let z : own (get_or tasks m.i.0 0) ≡ own (0 + m.list) = x ∙ (q ∙ y) in
-        m.pair.1 z) in
+      let x : own (get_or tasks m.i.0 0) ≡ own k = ap own (sym e0) in
+      let y : own l ≡ own (0 + m.list) = ap own e1 in
+      let z : own (get_or tasks m.i.0 0) ≡ own (0 + m.list) = x ∙ (q ∙ y) in
+      m.pair.1 z) in
       record {
         j = m.j;
         i = m.i;
@@ -88,10 +88,10 @@ module _ (graph : List (List RowId)) (lists : List (List RowTask)) (graph_is : I
       let t : get_or tasks c.i.0 0 ≡ k = task_is (length graph) lists placed k c.i c.i_in in
       let z : 0 + l ≡ l = omega arith in
       let apart : own (get_or tasks c.i.0 0) ≡ own (0 + l) → ⊥ = λ q. (
-        let x : own k ≡ own (get_or tasks c.i.0 0) = ap own (sym t) in
-        let y : own (0 + l) ≡ own l = ap own z in
-        let w : own k ≡ own l = x ∙ (q ∙ y) in
-        c.differ w) in
+      let x : own k ≡ own (get_or tasks c.i.0 0) = ap own (sym t) in
+      let y : own (0 + l) ≡ own l = ap own z in
+      let w : own k ≡ own l = x ∙ (q ∙ y) in
+      c.differ w) in
       let g = In-lists_to graph owners tasks 0 (rows_from lists) l c.j c.i c.j_in c.dep apart in
       let e : (row (get_or tasks c.i.0 0), row (0 + l)) ≡ (row k, row l) = λ x. (row (t x), row (z x)) in
       let g' = subst (λ (q : RowId × RowId). In q pairs) e g in
@@ -115,9 +115,9 @@ module _ (graph : List (List RowId)) (lists : List (List RowTask)) (cross : List
   pub is_list : IsCrossList cross (owners_from 0 lists)
   is_list = record {
     members = λ l u h. (
-      let c = cross_num u.0 l h in
-      let b = listed (rows_from lists) u.0 c.i c.i_in in
-      omega (arith, b, s.made.each_row));
+        let c = cross_num u.0 l h in
+        let b = listed (rows_from lists) u.0 c.i c.i_in in
+        omega (arith, b, s.made.each_row));
     climbs = λ l. climbing_from 0 (get_or cross l []) (λ d h. omega arith) (s.made.ascending l);
     rises = λ a b h l. owners_rise lists a b h (omega (arith, l, s.made.each_row));
     apart = λ l u h. (cross_num u.0 l h).differ;

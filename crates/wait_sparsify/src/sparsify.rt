@@ -51,7 +51,7 @@ fn cross_of_each(
     requires owners { owners.now ≡ owners_from 0 lists.now }
     ensures cross { IfOk result (λ cross. ArePredecessors (length (rows_from lists.now))
         (crossing_lists preds.now (owners_from 0 lists.now)
-            (written_lists 0 (rows_from lists.now) (replicate (length preds.now) 0)) 0 (rows_from lists.now))
+        (written_lists 0 (rows_from lists.now) (replicate (length preds.now) 0)) 0 (rows_from lists.now))
         cross) }
     ensures few { IfOk result (λ _cross. length (rows_from lists.now) + 1 < 2 ^ 32) }
     ensures graph { IsGraph preds.now }

@@ -7,5 +7,5 @@ invariant-loop-task l =
     record {
       kept : l.kept ++ kept_lists l.cross l.owners l.task l.earlier.items l.between.items (drop l.task l.cross) ≡ kept_lists l.cross l.owners 0 (replicate (length l.cross) 0) (replicate (length l.cross) 0) l.cross;
       earlier : vec_len l.earlier ≡ length l.cross;
-      between : vec_len l.between ≡ length l.cross
+      between : vec_len l.between ≡ length l.cross;
     }

@@ -8,5 +8,5 @@ invariant-loop-worker l =
       owners : l.seats.owners.items ++ owners_from l.worker (drop l.worker l.lists) ≡ owners_from 0 l.lists;
       places : l.seats.places.items ++ places_from (drop l.worker l.lists) ≡ places_from l.lists;
       small_owners : All (λ w. w + 1 < 2 ^ 32) l.seats.owners.items;
-      small_places : All (λ p. p + 1 < 2 ^ 32) l.seats.places.items
+      small_places : All (λ p. p + 1 < 2 ^ 32) l.seats.places.items;
     }

@@ -8,9 +8,9 @@ use Rattle.wait_sparsify.proofs.plain.are_joined.Goals as goal
 pub loop-row-preserved : goal.loop-row-preserved
 loop-row-preserved c =
     below_more _ _ c.loop-row.invariant (λ h. (
-      let g = subst (λ (rows : List RowId). SomeBefore rows c.args.firsts.now) (sym c.before-in-loop-row.ensures.rows) h in
-      let t = c.some_before.ensures.1 g in
-      absurd (search rules)))
+    let g = subst (λ (rows : List RowId). SomeBefore rows c.args.firsts.now) (sym c.before-in-loop-row.ensures.rows) h in
+    let t = c.some_before.ensures.1 g in
+    absurd (search rules)))
 
 pub returns : goal.returns
 returns c = (

@@ -10,6 +10,6 @@ pub returns : goal.returns
 returns c = (
   λ t. absurd (cc),
   λ w. absurd (
-    let l = next_within c.args.cross.now c.args.owners.now c.args.first w.0 w.1.0 in
-    c.loop-between.invariant w.0 (omega (arith, l, c.len-between-end.ensures.len, c.loop-between-test.false)) w.1),
+      let l = next_within c.args.cross.now c.args.owners.now c.args.first w.0 w.1.0 in
+      c.loop-between.invariant w.0 (omega (arith, l, c.len-between-end.ensures.len, c.loop-between-test.false)) w.1),
 )
