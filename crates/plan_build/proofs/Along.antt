@@ -1,10 +1,10 @@
 -- What is said of one relation between rows holds of each that says the same.
-use Rattle.std.proofs.Common.{◌≡◌, ◌↔◌, ℕ, inl, inr, List, Contains}
+use Rattle.std.proofs.Common.{ℕ, inl, inr, List}
 use Rattle.wave_base.specs.declared.types.RowId.{RowId}
 use Rattle.sched_types.specs.declared.sched.Task.{Task}
 use Rattle.sched_types.specs.declared.sched.RowTask.{RowTask}
 use Rattle.sched_types.specs.Order.{Place}
-use Rattle.sched_types.specs.Kept.{IsCross, Plus, IsKept, AreKeptWaits, HasKeptWaits}
+use Rattle.sched_types.specs.Kept.{IsCross, Plus, IsKept, HasKeptWaits}
 use Rattle.sched_types.specs.Fits.{Fits}
 use Rattle.wait_sparsify.specs.Depends.{CountsCross}
 

@@ -1,10 +1,10 @@
 -- Each dependence is counted once.
-use Rattle.std.proofs.Common.{◌≡◌, ◌↔◌, ℕ, ◌+◌, ◌∙◌, List, [], Contains, length, get_or, map, sum_by, arith, refl, ap, sym, subst}
+use Rattle.std.proofs.Common.{◌≡◌, ℕ, ◌+◌, ◌∙◌, List, [], Contains, length, get_or, map, sum_by, arith, ap, subst}
 use Rattle.std.proofs.lemmas.List.{length-map}
 use Rattle.wave_base.specs.declared.types.RowId.{RowId}
 use Rattle.row_graph.specs.Rows.{row}
 use Rattle.row_graph.specs.Turned.{turned}
-use Rattle.row_graph.specs.Predecessors.{before, ArePredecessors}
+use Rattle.row_graph.specs.Predecessors.{ArePredecessors}
 use Rattle.row_graph.proofs.Members.{In, In-from, In-to, In-map, In-map_to, In-turned, In-turned_to}
 use Rattle.wait_sparsify.proofs.Counting.{distinct_pairs, distinct_map, distinct_turned, length-turned}
 use Rattle.wait_sparsify.proofs.Surviving.{climbing_from}

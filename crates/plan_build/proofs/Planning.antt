@@ -1,5 +1,5 @@
 -- The parts of a plan, put together.
-use Rattle.std.proofs.Common.{◌≡◌, ◌<◌, ◌∙◌, ℕ, List, Contains, length, sum_by, sym, subst}
+use Rattle.std.proofs.Common.{◌≡◌, ◌<◌, ℕ, List, length, sum_by, sym, subst}
 use Rattle.wave_base.specs.declared.types.RowId.{RowId}
 use Rattle.row_graph.specs.Predecessors.{ArePredecessors}
 use Rattle.wave_levels.specs.Levels.{AreLevels, above}

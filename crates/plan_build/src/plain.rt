@@ -11,8 +11,7 @@ use std::alloc::Global;
 use super_tasks::plain::group_by_search;
 use wait_sparsify::plain::sparsify_by_search;
 use wave_base::types::{Memory, RowId};
-use wave_levels::chains::chain;
-use wave_levels::plain::levels_by_search;
+use wave_levels::plain::{chain_by_search, levels_by_search};
 
 /// The plan of `n` rows for 1 to 64 workers, as `build` gives it, by searches.
 pub fn build_by_search(
@@ -30,7 +29,7 @@ pub fn build_by_search(
 {
     let preds = predecessors(alloc, n, pairs)?;
     let levels = levels_by_search(alloc, &preds)?;
-    let chain = chain(alloc, &preds, &levels)?;
+    let chain = chain_by_search(alloc, &preds, &levels)?;
     let tasks = group_by_search(alloc, &levels, workers)?;
     let (sched, cross) = sparsify_by_search(alloc, &preds, tasks)?;
     Ok(Built {

@@ -1,5 +1,5 @@
 -- The tasks of a schedule are those that were handed in, with the waits of their numbers.
-use Rattle.std.proofs.Common.{◌≡◌, ℕ, suc, zero, ◌+◌, ◌∙◌, List, [], ◌∷◌, Some, None, length, get_or, map, arith, refl, ap, sym}
+use Rattle.std.proofs.Common.{◌≡◌, ℕ, suc, zero, ◌+◌, ◌∙◌, List, [], ◌∷◌, Some, length, get_or, map, arith, refl, ap, sym}
 use Rattle.std.specs.List.{slice_get}
 use Rattle.std.proofs.lemmas.Option.{same_Some}
 use Rattle.wave_base.specs.declared.types.RowId.{RowId}

@@ -1,5 +1,5 @@
 -- Numbers stay within the lists that they name.
-use Rattle.std.proofs.Common.{◌≡◌, ℕ, suc, zero, ◌+◌, ◌<◌, ◌∙◌, inl, inr, List, [], ◌∷◌, All, length, get_or, replicate, arith, refl, ap, sym, subst}
+use Rattle.std.proofs.Common.{◌≡◌, ℕ, ◌+◌, ◌<◌, ◌∙◌, List, [], All, length, get_or, replicate, arith, ap, sym, subst}
 use Rattle.std.proofs.lemmas.List.{get_or_default, length-replicate}
 use Rattle.std.proofs.lemmas.List.Elements.{All-contains, Contains-get_or}
 use Rattle.wave_base.specs.declared.types.RowId.{RowId}
@@ -7,7 +7,6 @@ use Rattle.row_graph.specs.Rows.{row}
 use Rattle.row_graph.specs.Predecessors.{before, IsGraph}
 use Rattle.row_graph.proofs.Members.{In, In-from, In-to}
 use Rattle.sched_types.specs.declared.sched.RowTask.{RowTask}
-use Rattle.sched_types.specs.Order.{Place, IsAt}
 use Rattle.sched_types.specs.declared.sched.Task.{Task}
 use Rattle.sched_types.specs.Kept.{AreKeptWaits, HasKeptWaits}
 use Rattle.wait_sparsify.specs.Depends.{Depends, ArePlaced}

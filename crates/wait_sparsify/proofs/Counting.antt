@@ -1,5 +1,5 @@
 -- Each cross pair is counted once.
-use Rattle.std.proofs.Common.{◌≡◌, ◌↔◌, ℕ, suc, zero, ◌+◌, ◌<◌, ◌≤◌, ◌∙◌, ◌++◌, inl, inr, List, [], ◌∷◌, AllPairs, Contains, length, get_or, map, sum_by, arith, refl, ap, sym, subst}
+use Rattle.std.proofs.Common.{◌≡◌, ℕ, suc, zero, ◌+◌, ◌<◌, ◌∙◌, ◌++◌, inl, inr, List, [], ◌∷◌, AllPairs, Contains, length, get_or, map, sum_by, arith, refl, ap, sym, subst}
 use Rattle.std.proofs.lemmas.List.{length-append, length-map}
 use Rattle.std.proofs.lemmas.List.Elements.{Contains-get_or}
 use Rattle.std.proofs.lemmas.List.Sums.{sum_by-cons}
@@ -12,12 +12,11 @@ use Rattle.sched_types.specs.declared.sched.RowTask.{RowTask}
 use Rattle.sched_types.specs.Order.{Place}
 use Rattle.sched_types.specs.Kept.{IsCross}
 use Rattle.wait_sparsify.specs.Depends.{Depends, CountsCross}
-use Rattle.wait_sparsify.specs.Numbered.{owners_from, places_from, rows_from}
-use Rattle.wait_sparsify.proofs.Numbering.{Has, number, owner_at, place_at, has_place}
+use Rattle.wait_sparsify.specs.Numbered.{owners_from, places_from}
+use Rattle.wait_sparsify.proofs.Numbering.{Has, owner_at, place_at, has_place}
 use Rattle.wait_sparsify.proofs.Places.{num, place, has-from, listed}
 use Rattle.wait_sparsify.proofs.Surviving.{Climbing-in}
-use Rattle.wait_sparsify.proofs.Keeping.{IsCrossList}
-use Rattle.wait_sparsify.proofs.Transport.{Setting, is_list, cross_num, cross_place, place_cross}
+use Rattle.wait_sparsify.proofs.Transport.{Setting, is_list, cross_place, place_cross}
 
 -- no entry stands twice
 abbrev pub Distinct : {X : Type 0} → List X → Type 0

@@ -1,10 +1,9 @@
 -- Whether some task stands between two.
-use Rattle.std.proofs.Common.{◌≡◌, ◌≢◌, ℕ, suc, zero, ◌+◌, ◌<◌, ◌≤◌, ◌∙◌, ◌⊎◌, inl, inr, List, [], ◌∷◌, Contains, Some, None, length, get_or, arith, refl, ap, sym, subst}
+use Rattle.std.proofs.Common.{◌≡◌, ℕ, suc, zero, ◌<◌, ◌∙◌, ◌⊎◌, inl, inr, List, [], ◌∷◌, None, length, get_or, arith, refl, sym, subst}
 use Rattle.std.specs.List.{slice_get}
 use Rattle.std.proofs.lemmas.Bool.{cases_eq, cases_lt}
-use Rattle.std.proofs.lemmas.Option.{slice_get_cases, same_Some, none-some, slice_get_within}
+use Rattle.std.proofs.lemmas.Option.{slice_get_cases, same_Some, none-some}
 use Rattle.wave_base.specs.declared.types.RowId.{RowId}
-use Rattle.row_graph.specs.Rows.{row}
 use Rattle.row_graph.specs.Predecessors.{before}
 use Rattle.row_graph.proofs.Members.{In, In-from, In-to}
 use Rattle.sched_types.specs.declared.sched.RowTask.{RowTask}

@@ -1,15 +1,15 @@
 -- The order of a schedule with the kept waits has every cross pair, and so the schedule fits.
-use Rattle.std.proofs.Common.{◌≡◌, ℕ, suc, zero, ◌+◌, ◌-◌, ◌<◌, ◌≤◌, ◌∙◌, ◌⊎◌, inl, inr, List, [], ◌∷◌, Contains, Some, None, length, get_or, map, arith, refl, ap, sym, subst}
+use Rattle.std.proofs.Common.{◌≡◌, ℕ, suc, zero, ◌+◌, ◌-◌, ◌<◌, ◌≤◌, ◌∙◌, inl, inr, List, [], ◌∷◌, Contains, Some, length, get_or, map, arith, refl, ap, sym, subst}
 use Rattle.std.specs.List.{slice_get}
 use Rattle.std.proofs.lemmas.Bool.{cases_eq, cases_lt, cases_order}
-use Rattle.std.proofs.lemmas.List.{length-map, get_or_past}
+use Rattle.std.proofs.lemmas.List.{length-map}
 use Rattle.std.proofs.lemmas.Option.{slice_get_within, get_or_from_slice_get, slice_get-get_or}
 use Rattle.wave_base.specs.declared.types.RowId.{RowId}
 use Rattle.sched_types.specs.declared.lists.Wait.{Wait}
 use Rattle.sched_types.specs.declared.sched.Task.{Task}
 use Rattle.sched_types.specs.declared.sched.RowTask.{RowTask}
-use Rattle.sched_types.specs.Order.{Place, IsAt, tasks_of, Waits, Before, by_worker, by_wait, through}
-use Rattle.sched_types.specs.Kept.{IsCross, IsEarlier, Plus, IsKept, AreKeptWaits, HasKeptWaits}
+use Rattle.sched_types.specs.Order.{Place, IsAt, tasks_of, Before, by_worker, by_wait, through}
+use Rattle.sched_types.specs.Kept.{IsCross, Plus, IsKept, HasKeptWaits}
 use Rattle.sched_types.specs.Fits.{Stands, Fits}
 use Rattle.wait_sparsify.specs.Depends.{Depends, StandsIn, ArePlaced, AreLevelled}
 use Rattle.wait_sparsify.proofs.Places.{place, has-from, at-from}

@@ -1,5 +1,5 @@
 -- Places and numbers of tasks, and the rows that stand there.
-use Rattle.std.proofs.Common.{◌≡◌, ℕ, suc, zero, ◌+◌, ◌<◌, ◌≤◌, ◌∙◌, ◌⊎◌, inl, inr, List, [], ◌∷◌, Contains, Some, length, get_or, replicate, arith, refl, ap, sym, subst}
+use Rattle.std.proofs.Common.{◌≡◌, ℕ, ◌+◌, ◌<◌, ◌∙◌, inl, inr, List, [], Some, length, get_or, replicate, arith, refl, ap, sym, subst}
 use Rattle.std.specs.List.{slice_get}
 use Rattle.std.proofs.lemmas.Bool.{cases_lt}
 use Rattle.std.proofs.lemmas.List.{get_or_past, length-replicate}
@@ -8,11 +8,11 @@ use Rattle.wave_base.specs.declared.types.RowId.{RowId}
 use Rattle.row_graph.specs.Rows.{row}
 use Rattle.row_graph.proofs.Members.{In, In-from, In-to}
 use Rattle.sched_types.specs.declared.sched.RowTask.{RowTask}
-use Rattle.sched_types.specs.Order.{Place, IsAt, tasks_of}
-use Rattle.wait_sparsify.specs.Depends.{StandsIn, ArePlaced}
-use Rattle.wait_sparsify.specs.Numbered.{owners_from, places_from, rows_from}
+use Rattle.sched_types.specs.Order.{Place, IsAt}
+use Rattle.wait_sparsify.specs.Depends.{ArePlaced}
+use Rattle.wait_sparsify.specs.Numbered.{rows_from}
 use Rattle.wait_sparsify.specs.Written.{written_lists}
-use Rattle.wait_sparsify.proofs.Numbering.{Has, number, number_below, owner_at, place_at, rows_at_number, has_place, number_apart}
+use Rattle.wait_sparsify.proofs.Numbering.{Has, number, rows_at_number, has_place}
 use Rattle.wait_sparsify.proofs.TaskOf.{AreApart, task_of_row}
 
 -- the number of the task at a place

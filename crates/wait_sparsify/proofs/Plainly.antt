@@ -1,20 +1,18 @@
 -- What a search gives, in the words of the tasks that were handed in.
-use Rattle.std.proofs.Common.{◌≡◌, ◌↔◌, ℕ, ◌+◌, ◌<◌, ◌∙◌, ◌⊎◌, inl, inr, List, [], Contains, length, get_or, replicate, arith, ap, sym, subst}
+use Rattle.std.proofs.Common.{◌≡◌, ℕ, ◌<◌, ◌∙◌, inl, inr, List, [], length, get_or, arith, ap, subst}
 use Rattle.std.proofs.lemmas.List.Elements.{Contains-get_or}
 use Rattle.wave_base.specs.declared.types.RowId.{RowId}
 use Rattle.row_graph.specs.Rows.{row}
-use Rattle.row_graph.specs.Predecessors.{before, IsGraph, ArePredecessors}
-use Rattle.row_graph.proofs.Members.{In, In-from, In-to}
+use Rattle.row_graph.specs.Predecessors.{before, IsGraph}
+use Rattle.row_graph.proofs.Members.{In-from, In-to}
 use Rattle.sched_types.specs.declared.sched.RowTask.{RowTask}
 use Rattle.wait_sparsify.specs.Depends.{ArePlaced}
 use Rattle.wait_sparsify.specs.Numbered.{owners_from, rows_from}
-use Rattle.wait_sparsify.specs.Written.{written_lists}
-use Rattle.wait_sparsify.specs.Crossing.{crossing_lists}
-use Rattle.wait_sparsify.specs.Searched.{AreSelected, AreSelectedLists, Crosses, IsNext, IsNeeded}
+use Rattle.wait_sparsify.specs.Searched.{AreSelectedLists, Crosses, IsNext, IsNeeded}
 use Rattle.wait_sparsify.proofs.Places.{listed}
-use Rattle.wait_sparsify.proofs.Keeping.{IsCrossList, Next, Keeps, AreKeptAt}
+use Rattle.wait_sparsify.proofs.Keeping.{Next, AreKeptAt}
 use Rattle.wait_sparsify.proofs.Surviving.{climbing_from}
-use Rattle.wait_sparsify.proofs.Transport.{Setting, CrossNum, pair_num, num_pair, is_list}
+use Rattle.wait_sparsify.proofs.Transport.{Setting, pair_num, num_pair, is_list}
 
 -- the lists of crossed tasks are those that pairs give
 pub searched : (graph : List (List RowId)) (lists : List (List RowTask)) (cross : List (List RowId)) → IsGraph graph → ArePlaced (length graph) lists → AreSelectedLists (Crosses graph (owners_from 0 lists) (rows_from lists)) (length (rows_from lists)) cross → Setting graph lists cross

@@ -1,8 +1,7 @@
 -- Which tasks survive.
-use Rattle.std.proofs.Common.{◌≡◌, ℕ, suc, zero, ◌+◌, ◌<◌, ◌≤◌, ◌∙◌, ◌⊎◌, inl, inr, List, [], ◌∷◌, Bool, true, false, cond, eqb, ◌||◌, length, get_or, arith, refl, ap, sym, subst}
-use Rattle.std.proofs.lemmas.Bool.{eqb-false, ne_eqb, eq-eqb, or_parts, or_from, false≢true}
+use Rattle.std.proofs.Common.{◌≡◌, ℕ, suc, zero, ◌+◌, ◌<◌, ◌≤◌, inl, inr, List, [], ◌∷◌, Bool, true, false, cond, eqb, ◌||◌, length, get_or, arith, refl, ap, sym, subst}
+use Rattle.std.proofs.lemmas.Bool.{eqb-false, ne_eqb, or_parts, or_from}
 use Rattle.wave_base.specs.declared.types.RowId.{RowId}
-use Rattle.row_graph.specs.Rows.{row}
 use Rattle.row_graph.specs.Predecessors.{AreAscending}
 use Rattle.row_graph.proofs.Members.{In}
 use Rattle.row_graph.proofs.Ascending.{Climbing, Climbing-lower}

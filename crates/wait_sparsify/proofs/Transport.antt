@@ -1,5 +1,5 @@
 -- Cross pairs and kept waits, by number and by place.
-use Rattle.std.proofs.Common.{◌≡◌, ◌≢◌, ◌↔◌, ℕ, suc, zero, ◌+◌, ◌<◌, ◌≤◌, ◌∙◌, ◌⊎◌, inl, inr, List, [], ◌∷◌, AllPairs, Contains, length, get_or, map, replicate, arith, refl, ap, sym, subst}
+use Rattle.std.proofs.Common.{◌≡◌, ℕ, ◌+◌, ◌<◌, ◌≤◌, ◌∙◌, inl, inr, List, [], AllPairs, Contains, length, get_or, map, replicate, arith, ap, sym, subst}
 use Rattle.std.proofs.lemmas.List.{get_or-map, length-map}
 use Rattle.std.proofs.lemmas.List.Elements.{All-contains, Contains-get_or}
 use Rattle.wave_base.specs.declared.types.RowId.{RowId}
@@ -9,8 +9,8 @@ use Rattle.row_graph.proofs.Members.{In, In-from, In-to, In-map, In-map_to}
 use Rattle.row_graph.proofs.Ascending.{ascending_from}
 use Rattle.sched_types.specs.declared.lists.Wait.{Wait}
 use Rattle.sched_types.specs.declared.sched.RowTask.{RowTask}
-use Rattle.sched_types.specs.Order.{Place, IsAt, tasks_of}
-use Rattle.sched_types.specs.Kept.{IsCross, IsEarlier, Plus, IsKept, AreKeptWaits}
+use Rattle.sched_types.specs.Order.{Place}
+use Rattle.sched_types.specs.Kept.{IsCross, Plus, IsKept, AreKeptWaits}
 use Rattle.wait_sparsify.specs.Depends.{Depends, ArePlaced}
 use Rattle.wait_sparsify.specs.Numbered.{owners_from, places_from, rows_from}
 use Rattle.wait_sparsify.specs.Written.{written_lists}
@@ -18,7 +18,7 @@ use Rattle.wait_sparsify.specs.Crossing.{crossing_lists}
 use Rattle.wait_sparsify.specs.Attached.{wait_for, waits_for}
 use Rattle.wait_sparsify.proofs.Numbering.{Has, number, number_below, number_is, owner_at, place_at, has_place, owners_rise}
 use Rattle.wait_sparsify.proofs.Places.{num, place, has-from, at-from, rows_of-at, listed, row_below, row_stands, task_is}
-use Rattle.wait_sparsify.proofs.Crossings.{task_at, Comes, In-lists, In-lists_to}
+use Rattle.wait_sparsify.proofs.Crossings.{In-lists, In-lists_to}
 use Rattle.wait_sparsify.proofs.Surviving.{climbing_from}
 use Rattle.wait_sparsify.proofs.Keeping.{IsCrossList, Next, Keeps, AreKeptAt}
 

@@ -1,4 +1,4 @@
-use Rattle.std.proofs.Common.{◌<◌, below_more, rules, arith}
+use Rattle.std.proofs.Common.{below_more, rules, arith}
 use Rattle.wait_sparsify.proofs.Searching.{next_within}
 use Rattle.wait_sparsify.proofs.plain.has_between.Goals as goal
 

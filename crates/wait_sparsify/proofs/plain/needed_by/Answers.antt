@@ -1,4 +1,4 @@
-use Rattle.std.proofs.Common.{◌≡◌, ◌+◌, ◌∙◌, ℕ, List, sym, subst, arith, rules}
+use Rattle.std.proofs.Common.{◌≡◌, ◌+◌, ◌∙◌, ℕ, List, sym, subst, rules}
 use Rattle.wave_base.specs.declared.types.RowId.{RowId}
 use Rattle.wait_sparsify.specs.Searched.{AreSelected, IsNeeded}
 use Rattle.wait_sparsify.proofs.Searching.{selected_skip, selected_take}

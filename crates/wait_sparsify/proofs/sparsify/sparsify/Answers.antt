@@ -1,12 +1,7 @@
-use Rattle.std.proofs.Common.{◌≡◌, ◌<◌, ◌∙◌, ℕ, List, All, length, replicate, ap, sym, subst}
-use Rattle.wave_base.specs.declared.types.RowId.{RowId}
-use Rattle.row_graph.specs.Predecessors.{ArePredecessors, IsGraph}
-use Rattle.sched_types.specs.declared.sched.RowTask.{RowTask}
-use Rattle.wait_sparsify.specs.Crossing.{crossing_lists}
-use Rattle.wait_sparsify.specs.Depends.{Depends, ArePlaced, CountsCross}
-use Rattle.wait_sparsify.specs.Numbered.{owners_from, places_from, rows_from}
+use Rattle.std.proofs.Common.{◌≡◌, ◌∙◌, ℕ, List, length, replicate, ap, sym, subst}
+use Rattle.wait_sparsify.specs.Depends.{Depends, CountsCross}
+use Rattle.wait_sparsify.specs.Numbered.{owners_from, places_from}
 use Rattle.wait_sparsify.specs.Survivors.{kept_lists}
-use Rattle.wait_sparsify.specs.Written.{written_lists}
 use Rattle.wait_sparsify.proofs.Numbering.{length-owners, length-places}
 use Rattle.wait_sparsify.proofs.Bounds.{cross_within, swept_long, swept_at, kept_inside, has_waits}
 use Rattle.wait_sparsify.proofs.Counting.{counts_cross}
