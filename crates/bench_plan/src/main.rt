@@ -58,6 +58,7 @@ fn serve(rt: &HostRuntime, asked: &Request) -> io::Result<()> {
         "levels {} chain {} tasks {}",
         counts.levels, counts.chain, counts.tasks
     )?;
+    println!(rt; "cross {} waits {}", counts.cross, counts.waits)?;
     if asked.timed {
         println!(rt; "milliseconds {}", took.as_millis())?;
     }

@@ -1,14 +1,11 @@
-// From pairs to levels, a chain and tasks.
+// From pairs to a plan, and how much it has.
 ghost use Rattle.std.specs.Prelude.{◌<◌, ◌≤◌, All};
 ghost use Rattle.wave_base.specs.declared.types.RowId.{RowId};
 
-use row_graph::preds::Preds;
-use sched_types::sched::Tasks;
+use plan_build::build::build;
+use sched_types::sched::Sched;
 use std::alloc::Global;
-use super_tasks::group::group;
 use wave_base::types::{Memory, RowId};
-use wave_levels::chains::chain;
-use wave_levels::levels::levels;
 
 #[derive(Clone, Copy)]
 pub struct Counts {
@@ -16,6 +13,8 @@ pub struct Counts {
     pub levels: u32,
     pub chain: usize,
     pub tasks: usize,
+    pub cross: u64,
+    pub waits: usize,
 }
 
 /// Plans the rows, and counts what came out.
@@ -30,22 +29,27 @@ pub fn plan(
     requires some { 1 ≤ workers }
     requires few { workers ≤ 64 }
 {
-    let preds = Preds::of(alloc, rows, pairs)?;
-    let levels = levels(alloc, &preds)?;
-    let chain = chain(alloc, &preds, &levels)?;
-    let tasks = group(alloc, &levels, workers)?;
+    let built = build(alloc, rows, pairs, workers)?;
+    let (tasks, waits) = counted(&built.sched);
     Ok(Counts {
-        edges: preds.edges(),
-        levels: levels.count(),
-        chain: chain.len(),
-        tasks: many_tasks(&tasks),
+        edges: built.edges,
+        levels: built.levels,
+        chain: built.chain.as_slice().len(),
+        tasks,
+        cross: built.cross,
+        waits,
     })
 }
 
-fn many_tasks(tasks: &Tasks) -> usize {
-    let mut many = 0usize;
-    for list in tasks.workers.as_slice() {
-        many = many.saturating_add(list.as_slice().len());
+// How many tasks and how many waits.
+fn counted(sched: &Sched) -> (usize, usize) {
+    let mut tasks = 0usize;
+    let mut waits = 0usize;
+    for list in sched.workers.as_slice() {
+        tasks = tasks.saturating_add(list.as_slice().len());
+        for task in list.as_slice() {
+            waits = waits.saturating_add(task.waits.as_slice().len());
+        }
     }
-    many
+    (tasks, waits)
 }

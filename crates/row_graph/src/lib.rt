@@ -3,6 +3,7 @@
 
 pub mod buckets;
 mod distinct;
+pub mod firsts;
 pub mod lists;
 pub mod plain;
 pub mod preds;

@@ -14,7 +14,7 @@ use wave_base::types::{Memory, RowId};
 use wave_levels::chains::chain;
 use wave_levels::grouped::Levels;
 use wave_levels::levels::levels;
-use wave_levels::plain::levels_by_search;
+use wave_levels::plain::{chain_by_search, levels_by_search};
 
 // The pairs of a list that are pairs of rows, the lesser first.
 fn valid_pairs(
@@ -58,13 +58,11 @@ fn push_tasks(alloc: Global, text: &mut String, tasks: &Tasks) -> Result<(), Mem
 }
 
 // The number of levels, the chain, and each worker's tasks.
-fn told(alloc: Global, preds: &Preds, levels: &Levels, tasks: &Tasks) -> Result<String, Memory>
-    requires { AreLevels preds.now levels.now }
-{
+fn told(alloc: Global, levels: &Levels, chain: &[RowId], tasks: &Tasks) -> Result<String, Memory> {
     let mut text = String::new(alloc);
     push_number(alloc, &mut text, "levels ", levels.count())?;
     text.push_str(" chain")?;
-    push_rows(alloc, &mut text, chain(alloc, preds, levels)?.as_slice())?;
+    push_rows(alloc, &mut text, chain)?;
     push_tasks(alloc, &mut text, tasks)?;
     Ok(text)
 }
@@ -96,8 +94,9 @@ fn planned(alloc: Global, rows: u32, raw: &[(u32, u32)], workers: u32) -> Result
 {
     let preds = Preds::of(alloc, rows, valid_pairs(alloc, rows, raw)?)?;
     let levels = levels(alloc, &preds)?;
+    let chain = chain(alloc, &preds, &levels)?;
     let tasks = group(alloc, &levels, workers)?;
-    told(alloc, &preds, &levels, &tasks)
+    told(alloc, &levels, chain.as_slice(), &tasks)
 }
 
 // All that the quick ways give.
@@ -107,8 +106,9 @@ fn quick(alloc: Global, rows: u32, raw: &[(u32, u32)], workers: u32) -> Result<S
 {
     let preds = Preds::of(alloc, rows, valid_pairs(alloc, rows, raw)?)?;
     let levels = levels(alloc, &preds)?;
+    let chain = chain(alloc, &preds, &levels)?;
     let tasks = group(alloc, &levels, workers)?;
-    let mut text = told(alloc, &preds, &levels, &tasks)?;
+    let mut text = told(alloc, &levels, chain.as_slice(), &tasks)?;
     push_graph(alloc, &mut text, &preds, &levels)?;
     Ok(text)
 }
@@ -120,8 +120,9 @@ fn searched(alloc: Global, rows: u32, raw: &[(u32, u32)], workers: u32) -> Resul
 {
     let preds = predecessors(alloc, rows, valid_pairs(alloc, rows, raw)?.as_slice())?;
     let levels = levels_by_search(alloc, &preds)?;
+    let chain = chain_by_search(alloc, &preds, &levels)?;
     let tasks = group_by_search(alloc, &levels, workers)?;
-    let mut text = told(alloc, &preds, &levels, &tasks)?;
+    let mut text = told(alloc, &levels, chain.as_slice(), &tasks)?;
     push_graph(alloc, &mut text, &preds, &levels)?;
     Ok(text)
 }

@@ -30,3 +30,9 @@ above-le (x ∷ xs) m h =
 pub above-append : (xs : List ℕ) (y : ℕ) → above (xs ++ y ∷ []) ≡ max (above xs) (y + 1)
 above-append [] y = omega arith
 above-append (x ∷ xs) y = let r = above-append xs y in omega (arith, r)
+
+-- where none of the first rows has the greatest level, there are more rows
+pub none_of_level : (levels : List ℕ) (level at : ℕ) → above levels ≡ level + 1 → length levels ≤ at → ((k : ℕ) → k < at → get_or levels k 0 ≡ level → ⊥) → ⊥
+none_of_level levels level at e l none =
+    let a = above-attained levels level e in
+    none a.0 (omega (arith, a.1, l)) a.2

@@ -1,9 +1,10 @@
-// The plain way to the rows of each level: each level's rows are looked for. It says what the quick way
-// has to give, in a body that needs no buckets.
-ghost use Rattle.std.specs.Prelude.{◌≡◌, ℕ, ◌<◌, ◌≤◌, ◌^◌, length, slice_index, IfOk};
+// The plain way to the rows of each level and to the chain: rows are looked for among all rows. It says
+// what the quick way has to give, in a body that needs no buckets.
+ghost use Rattle.std.specs.Prelude.{◌≡◌, ℕ, ◌+◌, ◌<◌, ◌≤◌, ◌^◌, ◌↔◌, Contains, length, slice_index, IfOk, IsTrue};
 ghost use Rattle.wave_base.specs.declared.types.RowId.{RowId};
-ghost use Rattle.wave_levels.specs.Chains.{IsLongest};
-ghost use Rattle.wave_levels.specs.Levels.{AreLevels, level_at, rows_at};
+ghost use Rattle.row_graph.specs.Predecessors.{before};
+ghost use Rattle.wave_levels.specs.Chains.{IsLeastChain, IsLongest};
+ghost use Rattle.wave_levels.specs.Levels.{AreLevels, above, level_at, rows_at};
 
 use crate::each::level_of_each;
 use crate::grouped::{Levels, count_of};
@@ -38,4 +39,99 @@ fn rows_of(alloc: Global, levels: &[u32], level: u32) -> Result<Vec<RowId>, Memo
         }
     }
     Ok(rows)
+}
+
+/// A longest chain, as `chain` gives it, by a search of all rows for each of its rows.
+pub fn chain_by_search(alloc: Global, preds: &Preds, levels: &Levels) -> Result<Vec<RowId>, Memory>
+    requires { AreLevels preds.now levels.now }
+    ensures { IfOk result (λ rows. IsLeastChain preds.now levels.now rows.items) }
+{
+    let count = levels.count();
+    if count == 0 {
+        return Ok(Vec::new(alloc));
+    }
+    let last = row_of_level(preds, levels, count - 1);
+    chain_back(alloc, preds, levels, last)
+}
+
+// The first row of the greatest level.
+fn row_of_level(preds: &Preds, levels: &Levels, level: u32) -> RowId
+    requires levels { AreLevels preds.now levels.now }
+    requires greatest { above levels.now ≡ level + 1 }
+    ensures row { result.0 < length levels.now }
+    ensures level { level_at levels.now result ≡ level }
+    ensures least { (r : RowId) → r.0 < length levels.now → level_at levels.now r ≡ level → result.0 ≤ r.0 }
+{
+    for row in 0..preds.rows() {
+        if levels.of(RowId(row)) == level {
+            return RowId(row);
+        }
+    }
+    unreachable!()
+}
+
+// The chain that ends at a row of the greatest level.
+fn chain_back(
+    alloc: Global,
+    preds: &Preds,
+    levels: &Levels,
+    last: RowId,
+) -> Result<Vec<RowId>, Memory>
+    requires levels { AreLevels preds.now levels.now }
+    requires row { last.0 < length levels.now }
+    requires greatest { level_at levels.now last + 1 ≡ above levels.now }
+    requires least { (r : RowId) → r.0 < length levels.now
+        → level_at levels.now r + 1 ≡ above levels.now → last.0 ≤ r.0 }
+    ensures { IfOk result (λ rows. IsLeastChain preds.now levels.now rows.items) }
+{
+    let count = levels.count();
+    let mut rows = vec![in alloc; last; count as usize]?;
+    for back in 1..count {
+        let level = count - 1 - back;
+        let next = rows[level as usize + 1];
+        rows[level as usize] = row_before(preds, levels, next, level);
+    }
+    Ok(rows)
+}
+
+// The first row of a level that stands before a row, where there is one.
+fn row_before(preds: &Preds, levels: &Levels, next: RowId, level: u32) -> RowId
+    requires levels { AreLevels preds.now levels.now }
+    requires next { next.0 < length levels.now }
+    requires some { (i : RowId) × Contains (before preds.now next.0) i × (level_at levels.now i ≡ level) }
+    ensures lesser { result.0 < next.0 }
+    ensures one { Contains (before preds.now next.0) result }
+    ensures level { level_at levels.now result ≡ level }
+    ensures least { (i : RowId) → Contains (before preds.now next.0) i
+        → level_at levels.now i ≡ level → result.0 ≤ i.0 }
+{
+    let _rows = preds.rows();
+    for row in 0..next.0 {
+        if is_step(preds, levels, RowId(row), next, level) {
+            return RowId(row);
+        }
+    }
+    unreachable!()
+}
+
+// Whether a row has a level and stands before another.
+fn is_step(preds: &Preds, levels: &Levels, row: RowId, next: RowId, level: u32) -> bool
+    requires levels { AreLevels preds.now levels.now }
+    requires next { next.0 < length levels.now }
+    requires row { row.0 < next.0 }
+    ensures { IsTrue result ↔ (Contains (before preds.now next.0) row × (level_at levels.now row ≡ level)) }
+{
+    is_listed(preds.before(next), row) && levels.of(row) == level
+}
+
+// Whether a row is in a list.
+fn is_listed(rows: &[RowId], row: RowId) -> bool
+    ensures { IsTrue result ↔ Contains rows.now row }
+{
+    for other in rows {
+        if other.0 == row.0 {
+            return true;
+        }
+    }
+    false
 }

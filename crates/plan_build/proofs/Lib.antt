@@ -1,0 +1,5 @@
+pub mod Along
+pub mod Edges
+pub mod Grouped
+pub mod Planning
+pub mod Sharing

@@ -1,0 +1,7 @@
+//! From pairs of dependent rows to a schedule that fits them.
+#![tactic(auto)]
+
+pub mod build;
+pub mod plain;
+#[cfg(test)]
+mod worked;

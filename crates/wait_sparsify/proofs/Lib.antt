@@ -1,0 +1,16 @@
+pub mod Attaching
+pub mod Bounds
+pub mod Counting
+pub mod Crossings
+pub mod Deciding
+pub mod Keeping
+pub mod Numbering
+pub mod Ordering
+pub mod Places
+pub mod Plainly
+pub mod Searching
+pub mod Skips
+pub mod Stamping
+pub mod Surviving
+pub mod TaskOf
+pub mod Transport
