@@ -1,3 +1,5 @@
+pub mod Equal
 pub mod Indexes
+pub mod Listed
 pub mod Parts
 pub mod Wide
