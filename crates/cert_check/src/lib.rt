@@ -1,0 +1,6 @@
+//! The check of certificates, which trusts nobody who makes one.
+#![tactic(auto)]
+
+pub mod check;
+pub mod refusal;
+pub mod step;
