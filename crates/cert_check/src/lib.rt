@@ -4,3 +4,5 @@
 pub mod check;
 pub mod refusal;
 pub mod step;
+#[cfg(test)]
+mod tests;

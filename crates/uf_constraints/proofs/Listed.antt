@@ -1,10 +1,10 @@
 -- The atoms that are due: without repeats, and with whatever they are made of.
-use Rattle.std.proofs.Common.{ℕ, ◌<◌, ◌≤◌, ◌+◌, ◌≡◌, ◌⊎◌, inl, inr, Bool, true, false, cond, List, [], ◌∷◌, ◌++◌, length, slice_index_or, length-append, refl, sym, ap, ◌∙◌, subst, rules, arith, zero, suc}
+use Rattle.std.proofs.Common.{ℕ, ◌<◌, ◌≡◌, inl, inr, Bool, true, false, cond, List, [], ◌∷◌, ◌++◌, length, slice_index_or, length-append, refl, sym, ap, ◌∙◌, subst, rules, arith, zero, suc}
 use Rattle.std.specs.Prelude.{◌-◌, ◌==◌}
 use Rattle.std.specs.List.{All, Contains, flat_map}
 use Rattle.std.proofs.lemmas.List.{get_or_append_left, get_or-append_right}
 use Rattle.std.proofs.lemmas.Bool.{cases_order, false≢true}
-use Rattle.std.proofs.lemmas.List.Elements.{All-nil, All-cons, All-head, All-tail, All-append, All-push, All-weaker, All-contains, All-contains_itself, Contains-append_left, Contains-append_right, Contains-append_cases, Contains-push, Contains-get_or}
+use Rattle.std.proofs.lemmas.List.Elements.{All-nil, All-cons, All-head, All-tail, All-append, All-push, All-weaker, All-contains, All-contains_itself, Contains-append_left, Contains-append_right, Contains-push, Contains-get_or}
 use Rattle.wave_base.specs.declared.types.ArrayId.{ArrayId}
 use Rattle.loop_core.specs.declared.decl.PropDecl.{PropDecl}
 use Rattle.loop_core.specs.declared.decl.PropKind.{PropKind}
@@ -20,7 +20,7 @@ use Rattle.uf_constraints.specs.Once.{IsOnce}
 use Rattle.uf_constraints.specs.Over.{IsOver, AllOver, IsClosed, HasAtoms}
 use Rattle.uf_constraints.specs.Same.{is_listed}
 use Rattle.uf_constraints.specs.Universe.{plain, next, atom_parts, term_parts, diff_parts, listed, all_listed, written_atoms, diagonal_atoms, asked_by, asked_beside, atoms_due}
-use Rattle.uf_constraints.proofs.Equal.{is_among, listed_is, array_is}
+use Rattle.uf_constraints.proofs.Equal.{is_among, listed_is}
 
 -- No repeats.
 

@@ -4,6 +4,7 @@
 pub mod env;
 pub mod listing;
 pub mod same;
+pub mod small;
 pub mod system;
 pub mod truth;
 pub mod universe;
