@@ -6,5 +6,7 @@ pub mod listing;
 pub mod same;
 pub mod small;
 pub mod system;
+#[cfg(test)]
+mod tests;
 pub mod truth;
 pub mod universe;
