@@ -244,5 +244,8 @@ show(
     [], properties(True))
 print("bracket 12:4")
 show(SIZES + [("0", "v9", 0), ("v9", "n", -1)] + of_loop("v9", "v11"), [value(entry(1, "v11"))], properties(False))
+# what the derivation in docs/ANALYSIS.md ends with, and where one with a step that names itself fails
+print("certificate " + diff(entry(1, "v11"), "n", -1))
+print("bad step 20")
 for number in range(240):
     show_made(number)

@@ -1,5 +1,5 @@
 //! Lists the atoms and the rule instances of two systems of the unit forward substitution: of one
-//! relation, and of the bounds of one bracket. Of 240 systems that are made from a counter it prints
+//! relation, and of the bounds of one bracket, whose upper bound it checks by a certificate. Of 240 systems that are made from a counter it prints
 //! how many atoms and instances there are, with a sum over their text. With the words `time NUMBER`
 //! it prints the least time of so many listings of a system of 90 atoms instead.
 #![tactic(auto)]
@@ -8,9 +8,12 @@ mod forward;
 mod large;
 mod made;
 mod text;
+mod worked;
 
 use crate::forward::System;
-use crate::text::{atom_text, rule_text};
+use crate::text::{atom_text, diff_text, rule_text};
+use cert_check::check::check;
+use cert_check::refusal::CertRefusal;
 use index_props::instances::instances;
 use index_props::rule::RuleInst;
 use index_props::small::are_bounds_small;
@@ -61,6 +64,31 @@ fn show(rt: &HostRuntime, system: Option<System>) -> io::Result<()> {
         println!(rt; "{}", rule_text(rt.alloc(), rule)?)?;
     }
     Ok(())
+}
+
+/// Checks the certificate of the bracket's upper bound, or one of which a step names itself.
+fn show_check(rt: &HostRuntime, names_itself: bool) -> io::Result<()> {
+    let Some(system) = forward::bracket(rt.alloc()) else {
+        return Ok(());
+    };
+    let Some(listing) = list(rt.alloc(), &system) else {
+        return Ok(());
+    };
+    let Some(cert) = worked::certificate(rt.alloc(), names_itself) else {
+        return Ok(());
+    };
+    let base = system.base.as_slice();
+    match check(
+        rt.alloc(),
+        &listing.universe,
+        base,
+        listing.rules.as_slice(),
+        &cert,
+    ) {
+        Ok(diff) => println!(rt; "certificate {}", diff_text(rt.alloc(), &diff)?),
+        Err(CertRefusal::BadStep { at }) => println!(rt; "bad step {at}"),
+        Err(CertRefusal::Memory) => Ok(()),
+    }
 }
 
 /// A sum over the bytes of a text, in which their order tells.
@@ -134,6 +162,8 @@ fn show_all(rt: &HostRuntime) -> io::Result<()> {
     show(rt, forward::relation(rt.alloc()))?;
     println!(rt; "bracket 12:4")?;
     show(rt, forward::bracket(rt.alloc()))?;
+    show_check(rt, false)?;
+    show_check(rt, true)?;
     for counter in 0..240 {
         show_made(rt, counter)?;
     }

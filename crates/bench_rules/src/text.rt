@@ -12,6 +12,13 @@ pub fn atom_text(alloc: Global, atom: &Atom) -> Result<String, AllocError> {
     Ok(text)
 }
 
+/// The text of a constraint.
+pub fn diff_text(alloc: Global, diff: &Diff) -> Result<String, AllocError> {
+    let mut text = String::new(alloc);
+    push_diff(alloc, &mut text, diff)?;
+    Ok(text)
+}
+
 /// The text of an instance: `if` premises `then` results.
 pub fn rule_text(alloc: Global, rule: &RuleInst) -> Result<String, AllocError> {
     let mut text = String::new(alloc);
