@@ -1,5 +1,5 @@
 // Tests of what callers owe: how large the constants of terms are.
-ghost use Rattle.std.specs.Prelude.{◌≡◌, ◌^◌, IsTrue};
+ghost use Rattle.std.specs.Prelude.{◌≡◌, ◌^◌, ◌↔◌, IsTrue};
 ghost use Rattle.uf_constraints.specs.Constants.{atom_within, term_within, DiffsWithin, TermsWithin};
 
 use crate::system::Diff;
@@ -29,7 +29,7 @@ pub fn is_atom_small(atom: &Atom) -> bool
 
 /// Whether the terms may be handed to `universe`. It takes no memory.
 pub fn are_terms_small(terms: &[Term]) -> bool
-    ensures { IsTrue result → TermsWithin (2 ^ 21) terms.now }
+    ensures { IsTrue result ↔ TermsWithin (2 ^ 21) terms.now }
 {
     for term in terms {
         if !is_term_small(term) {
@@ -41,12 +41,19 @@ pub fn are_terms_small(terms: &[Term]) -> bool
 
 /// Whether the constraints may be handed to `universe`. It takes no memory.
 pub fn are_diffs_small(diffs: &[Diff]) -> bool
-    ensures { IsTrue result → DiffsWithin (2 ^ 21) diffs.now }
+    ensures { IsTrue result ↔ DiffsWithin (2 ^ 21) diffs.now }
 {
     for diff in diffs {
-        if !is_atom_small(&diff.a) || !is_atom_small(&diff.b) {
+        if !is_diff_small(diff) {
             return false;
         }
     }
     true
+}
+
+fn is_diff_small(diff: &Diff) -> bool
+    ensures { IsTrue result
+        ↔ (IsTrue (atom_within (2 ^ 21) diff.now.a) × IsTrue (atom_within (2 ^ 21) diff.now.b)) }
+{
+    is_atom_small(&diff.a) && is_atom_small(&diff.b)
 }
