@@ -1,3 +1,6 @@
+pub mod AllOver
+pub mod AllSound
+pub mod Every
 pub mod Pushed
 pub mod Soundness
 mod Steps

@@ -5,4 +5,5 @@ pub mod Meanings
 pub mod Places
 pub mod Rules
 pub mod Sound
+pub mod Table
 pub mod Within

@@ -1,17 +1,45 @@
 // Each line of the table of rules is sound: for arrays of the declared lengths that have the
 // property, true premises give true results.
 ghost use Rattle.std.specs.Prelude.{true, false, IsTrue, List};
+ghost use Rattle.std.specs.List.{All};
 ghost use Rattle.wave_base.specs.declared.types.ArrayId.{ArrayId};
 ghost use Rattle.loop_core.specs.declared.decl.Decl.{Decl};
+ghost use Rattle.loop_core.specs.declared.decl.PropDecl.{PropDecl};
 ghost use Rattle.loop_core.specs.declared.decl.PropKind.{PropKind};
 ghost use Rattle.loop_core.specs.declared.decl.PropKind.TheVariants.{Range, Rising, Strict, Injective, Sorted, Below, Upto, Diagonal, Before};
 ghost use Rattle.loop_core.specs.declared.nest.Term.{Term};
+ghost use Rattle.loop_core.specs.declared.nest.Atom.{Atom};
+ghost use Rattle.loop_core.specs.Binding.{Binding};
+ghost use Rattle.loop_core.specs.Lists.{Lists};
 ghost use Rattle.loop_core.specs.IsNest.{is_bound};
 ghost use Rattle.loop_core.specs.Sizes.{is_index};
 ghost use Rattle.index_props.specs.declared.rule.PairLine.TheVariants.{Equal as EqualLine, Injective as InjectiveLine, Ordered as OrderedLine};
 ghost use Rattle.index_props.specs.Entries.{entry_of};
-ghost use Rattle.index_props.specs.Rules.{pair_instance, range_instance, sorted_instance, limit_instance, diagonal_instance, before_instance, order};
-ghost use Rattle.index_props.specs.Sound.{IsSound, segment_of};
+ghost use Rattle.uf_constraints.specs.Over.{IsClosed};
+ghost use Rattle.index_props.specs.Meanings.{Passes};
+ghost use Rattle.index_props.specs.Rules.{pair_instance, range_instance, sorted_instance, limit_instance, diagonal_instance, before_instance, order, instances_of};
+ghost use Rattle.index_props.specs.Sound.{IsSound, segment_of, IndexLengths, Follows, AllNameIndexes};
+ghost use Rattle.index_props.specs.Table.{IsInstance, IsRuleOver};
+
+/// Each instance is a line of the table, and all array entries that it names are in the universe.
+pub fn instances_are_lines()
+    ensures { (decls : List Decl) (props : List PropDecl) (atoms : List Atom) → All (IsInstance decls props atoms) (instances_of decls props atoms) }
+{}
+
+/// Each instance is sound: for arrays of the declared lengths that have all declared properties,
+/// and all values of the variables, true premises give true results.
+pub fn instances_are_sound()
+    ensures { (decls : List Decl) (props : List PropDecl) (atoms : List Atom) → AllNameIndexes decls props
+        → (a : Lists) (env : List Binding) → IndexLengths decls a → Passes props a
+        → All (Follows a env) (instances_of decls props atoms) }
+{}
+
+/// Each instance has its premises and results over the atoms, where they have 0, n, nnz and the
+/// atoms inside their entries among them, as those of a universe do.
+pub fn instances_are_over()
+    ensures { (decls : List Decl) (props : List PropDecl) (atoms : List Atom) → AllNameIndexes decls props → IsClosed atoms
+        → All (IsRuleOver atoms) (instances_of decls props atoms) }
+{}
 
 /// Equal arguments give equal entries, whatever the property.
 pub fn equal_arguments()

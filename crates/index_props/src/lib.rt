@@ -12,3 +12,4 @@ pub mod pairs;
 pub mod places;
 pub mod rule;
 pub mod segment;
+pub mod small;

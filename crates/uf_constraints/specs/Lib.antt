@@ -1,5 +1,7 @@
 pub mod Bindings
 pub mod Constants
+pub mod Once
+pub mod Over
 pub mod Pairs
 pub mod Refusal
 pub mod Same

@@ -4,6 +4,9 @@
 pub mod env;
 pub mod listing;
 pub mod same;
+pub mod small;
 pub mod system;
+#[cfg(test)]
+mod tests;
 pub mod truth;
 pub mod universe;

@@ -1,5 +1,6 @@
 // Systems of constraints.
 ghost use Rattle.std.specs.Prelude.{◌≤◌, length};
+ghost use Rattle.uf_constraints.specs.Once.{IsOnce};
 
 use loop_core::nest::Atom;
 use sqlite_items::Items;
@@ -36,4 +37,5 @@ pub struct Relation {
 pub struct Universe {
     pub atoms: Items<Atom>,
     ghost few: { length atoms ≤ 96 },
+    ghost once: { IsOnce atoms },
 }

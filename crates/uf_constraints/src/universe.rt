@@ -4,6 +4,8 @@ ghost use Rattle.std.specs.List.{flat_map};
 ghost use Rattle.loop_core.specs.declared.nest.Atom.{out-Atom};
 ghost use Rattle.loop_core.specs.declared.nest.Atom.TheVariants.{Zero, N, Nnz, At};
 ghost use Rattle.uf_constraints.specs.Constants.{DiffsWithin, TermsWithin, IndexWithin, IndexesWithin};
+ghost use Rattle.uf_constraints.specs.Once.{IsOnce};
+ghost use Rattle.uf_constraints.specs.Over.{AllOver, HasAtoms, IsClosed};
 ghost use Rattle.uf_constraints.specs.Universe.{written_atoms, atoms_due, asked_by, asked_beside, plain, next};
 ghost use Rattle.uf_constraints.specs.Refusal.{IsCause};
 
@@ -49,6 +51,9 @@ pub fn universe(
     requires extra { TermsWithin (2 ^ 21) extra.now }
     ensures atoms { IfOk result (λ u. u.atoms ≡ atoms_due base.now extra.now props.now) }
     ensures within { IfOk result (λ u. IndexesWithin (2 ^ 21 + 1) u.atoms) }
+    ensures closed { IfOk result (λ u. IsClosed u.atoms) }
+    ensures over { IfOk result (λ u. AllOver u.atoms base.now) }
+    ensures terms { IfOk result (λ u. HasAtoms u.atoms extra.now) }
     ensures cause { IfErr result (IsCause (atoms_due base.now extra.now props.now)) }
 {
     let atoms = due(alloc, base, extra, props)?;
@@ -56,6 +61,7 @@ pub fn universe(
 }
 
 fn checked(atoms: Items<Atom>) -> Result<Universe, UniverseRefusal>
+    requires { IsOnce atoms }
     ensures { MatchResult result (λ u. u.atoms ≡ atoms) (IsCause atoms) }
 {
     if atoms.len() > 96 {
@@ -76,6 +82,10 @@ fn due(
     requires extra { TermsWithin (2 ^ 21) extra.now }
     ensures atoms { IfOk result (λ atoms. atoms ≡ atoms_due base.now extra.now props.now) }
     ensures within { IfOk result (IndexesWithin (2 ^ 21 + 1)) }
+    ensures once { IfOk result IsOnce }
+    ensures closed { IfOk result IsClosed }
+    ensures over { IfOk result (λ atoms. AllOver atoms base.now) }
+    ensures terms { IfOk result (λ atoms. HasAtoms atoms extra.now) }
 {
     let mut atoms = written(alloc, base, extra)?;
     let asked = asked(alloc, atoms.as_slice(), props)?;

@@ -1,0 +1,179 @@
+//! Lists the atoms and the rule instances of two systems of the unit forward substitution: of one
+//! relation, and of the bounds of one bracket, whose upper bound it checks by a certificate. Of 240 systems that are made from a counter it prints
+//! how many atoms and instances there are, with a sum over their text. With the words `time NUMBER`
+//! it prints the least time of so many listings of a system of 90 atoms instead.
+#![tactic(auto)]
+
+mod forward;
+mod large;
+mod made;
+mod text;
+mod worked;
+
+use crate::forward::System;
+use crate::text::{atom_text, diff_text, rule_text};
+use cert_check::check::check;
+use cert_check::refusal::CertRefusal;
+use index_props::instances::instances;
+use index_props::rule::RuleInst;
+use index_props::small::are_bounds_small;
+use sqlite_items::Items;
+use std::alloc::{AllocError, Global};
+use std::time::Instant;
+use std::{env, io};
+use uf_constraints::small::{are_diffs_small, are_terms_small};
+use uf_constraints::system::Universe;
+use uf_constraints::universe::universe;
+
+/// The atoms and the instances of a system.
+#[derive(Drop)]
+struct Listing {
+    universe: Universe,
+    rules: Items<RuleInst>,
+}
+
+fn list(alloc: Global, system: &System) -> Option<Listing> {
+    let base = system.base.as_slice();
+    let terms = system.terms.as_slice();
+    let props = system.props.as_slice();
+    if !are_diffs_small(base) {
+        return None;
+    }
+    if !are_terms_small(terms) {
+        return None;
+    }
+    if !are_bounds_small(props) {
+        return None;
+    }
+    let universe = universe(alloc, base, terms, props).ok()?;
+    let rules = instances(alloc, &universe, system.decls.as_slice(), props).ok()?;
+    Some(Listing { universe, rules })
+}
+
+fn show(rt: &HostRuntime, system: Option<System>) -> io::Result<()> {
+    let Some(system) = system else {
+        return Ok(());
+    };
+    let Some(listing) = list(rt.alloc(), &system) else {
+        return Ok(());
+    };
+    for atom in listing.universe.atoms.as_slice() {
+        println!(rt; "atom {}", atom_text(rt.alloc(), atom)?)?;
+    }
+    for rule in listing.rules.as_slice() {
+        println!(rt; "{}", rule_text(rt.alloc(), rule)?)?;
+    }
+    Ok(())
+}
+
+/// Checks the certificate of the bracket's upper bound, or one of which a step names itself.
+fn show_check(rt: &HostRuntime, names_itself: bool) -> io::Result<()> {
+    let Some(system) = forward::bracket(rt.alloc()) else {
+        return Ok(());
+    };
+    let Some(listing) = list(rt.alloc(), &system) else {
+        return Ok(());
+    };
+    let Some(cert) = worked::certificate(rt.alloc(), names_itself) else {
+        return Ok(());
+    };
+    let base = system.base.as_slice();
+    match check(
+        rt.alloc(),
+        &listing.universe,
+        base,
+        listing.rules.as_slice(),
+        &cert,
+    ) {
+        Ok(diff) => println!(rt; "certificate {}", diff_text(rt.alloc(), &diff)?),
+        Err(CertRefusal::BadStep { at }) => println!(rt; "bad step {at}"),
+        Err(CertRefusal::Memory) => Ok(()),
+    }
+}
+
+/// A sum over the bytes of a text, in which their order tells.
+fn summed(sum: u32, text: &str) -> u32 {
+    let mut sum = sum;
+    for byte in text.as_bytes() {
+        sum = sum.wrapping_mul(31).wrapping_add(u32::from(*byte));
+    }
+    sum
+}
+
+fn sum_of(alloc: Global, listing: &Listing) -> Result<u32, AllocError> {
+    let mut sum = 0;
+    for atom in listing.universe.atoms.as_slice() {
+        sum = summed(sum, atom_text(alloc, atom)?.as_str());
+    }
+    for rule in listing.rules.as_slice() {
+        sum = summed(sum, rule_text(alloc, rule)?.as_str());
+    }
+    Ok(sum)
+}
+
+fn show_made(rt: &HostRuntime, counter: u32) -> io::Result<()> {
+    let Some(system) = made::system(rt.alloc(), counter) else {
+        return Ok(());
+    };
+    let Some(listing) = list(rt.alloc(), &system) else {
+        return Ok(());
+    };
+    println!(rt;
+        "system {} atoms {} instances {} sum {}",
+        counter,
+        listing.universe.atoms.len(),
+        listing.rules.len(),
+        sum_of(rt.alloc(), &listing)?
+    )
+}
+
+/// How many atoms and instances there are, and the least number of nanoseconds of several turns.
+fn time(rt: &HostRuntime, turns: u32) -> io::Result<()> {
+    let Some(system) = large::system(rt.alloc()) else {
+        return Ok(());
+    };
+    let mut least = u128::MAX;
+    for turn in 0..turns {
+        let start = Instant::now(rt)?;
+        let Some(listing) = list(rt.alloc(), &system) else {
+            return Ok(());
+        };
+        least = least.min(start.elapsed(rt)?.as_nanos());
+        if turn == 0 {
+            println!(rt;
+                "atoms {} instances {}",
+                listing.universe.atoms.len(),
+                listing.rules.len()
+            )?;
+        }
+    }
+    println!(rt; "microseconds {}", least / 1000)
+}
+
+fn turns(words: &[String]) -> Option<u32> {
+    if words.first()?.as_str() != "time" {
+        return None;
+    }
+    words.get(1)?.as_str().parse::<u32>().ok()
+}
+
+fn show_all(rt: &HostRuntime) -> io::Result<()> {
+    println!(rt; "relation 10:1 12:2")?;
+    show(rt, forward::relation(rt.alloc()))?;
+    println!(rt; "bracket 12:4")?;
+    show(rt, forward::bracket(rt.alloc()))?;
+    show_check(rt, false)?;
+    show_check(rt, true)?;
+    for counter in 0..240 {
+        show_made(rt, counter)?;
+    }
+    Ok(())
+}
+
+fn main(rt: HostRuntime) -> io::Result<()> {
+    let words: Vec<String> = env::args(&rt)?.skip(1).collect(rt.alloc())?;
+    match turns(words.as_slice()) {
+        Some(turns) => time(&rt, turns),
+        None => show_all(&rt),
+    }
+}

@@ -1,0 +1,8 @@
+//! The check of certificates, which trusts nobody who makes one.
+#![tactic(auto)]
+
+pub mod check;
+pub mod refusal;
+pub mod step;
+#[cfg(test)]
+mod tests;
