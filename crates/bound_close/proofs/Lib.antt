@@ -1,0 +1,12 @@
+pub mod Atoms
+pub mod Count
+pub mod Edges
+pub mod Emits
+pub mod Grow
+pub mod Improve
+pub mod Named
+pub mod Passing
+pub mod Sets
+pub mod Takes
+pub mod Tight
+pub mod Traced

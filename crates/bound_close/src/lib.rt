@@ -1,0 +1,13 @@
+//! The exact closure of a system of constraints: its least bounds, and how each is derived.
+#![tactic(auto)]
+
+pub mod edge;
+pub mod passes;
+pub mod place;
+pub mod push;
+pub mod row;
+pub mod table;
+pub mod taking;
+pub mod waiting;
+pub mod way;
+pub mod workings;
