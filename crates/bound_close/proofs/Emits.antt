@@ -41,7 +41,7 @@ same-given u x l = rw (listed-at u x l) refl
 sum-given : (a b d : Atom) (p q : ℤ) → fits (p +ℤ q) ≡ true → sum_of record { a = a; b = b; c = p } record { a = b; b = d; c = q } ≡ Some record { a = a; b = d; c = p +ℤ q }
 sum-given a b d p q f = rw (same-itself b) (rw f refl)
 
-weaken-given : (a b : Atom) (z c : ℤ) → z ≤ℤ c → weakened c record { a = a; b = b; c = z } ≡ Some record { a = a; b = b; c = c }
+pub weaken-given : (a b : Atom) (z c : ℤ) → z ≤ℤ c → weakened c record { a = a; b = b; c = z } ≡ Some record { a = a; b = b; c = c }
 weaken-given a b z c h = let t : int_le z c ≡ true = grind (arith, ints) in rw t refl
 
 pub edges-left : (u : List Atom) (ds rest : List Diff) (edges : List Edge) → EdgesIn u ds edges → EdgesIn u (ds ++ rest) edges

@@ -1,3 +1,5 @@
+pub mod Between
+pub mod Closure
 pub mod Exact
 pub mod Log
 pub mod Marks

@@ -1,11 +1,16 @@
 //! The exact closure of a system of constraints: its least bounds, and how each is derived.
 #![tactic(auto)]
 
+pub mod between;
+pub mod closure;
+pub mod copy;
 pub mod edge;
+pub mod order;
 pub mod passes;
 pub mod place;
 pub mod push;
 pub mod row;
+pub mod run;
 pub mod table;
 pub mod taking;
 pub mod waiting;
