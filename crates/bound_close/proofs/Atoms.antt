@@ -1,5 +1,6 @@
 -- Equal atoms, and the places of atoms in a list.
 use Rattle.std.proofs.Common.{ℕ, ℤ, zero, suc, ◌<◌, ◌≤◌, ◌≡◌, ◌⊎◌, inl, inr, ◌+◌, ◌==◌, ◌&&◌, ◌||◌, Bool, true, false, if◌then◌else◌, List, [], ◌∷◌, length, slice_index_or, refl, subst, sym, ap, ◌∙◌, arith, rules}
+use Rattle.std.proofs.lemmas.List.{get_or_default}
 use Rattle.std.specs.List.{Contains, list_any}
 use Rattle.std.specs.Ordering.{int_eq}
 use Rattle.std.proofs.lemmas.Bool.{eqb-true, eq-eqb}
@@ -209,3 +210,7 @@ listed-at (b ∷ bs) (suc x) l = later (same_atom (atom_at bs x) b) (is_listed b
   later : (c d : Bool) → d ≡ true → (c || d) ≡ true
   later true d h = refl
   later false d h = h
+
+-- an atom with a place is listed
+pub contains-place : (u : List Atom) (a : Atom) → place_in u a < length u → Contains u a
+contains-place u a l = (place_in u a, l, get_or_default u (place_in u a) a Zero l ∙ place-is u a l)

@@ -8,6 +8,7 @@ pub mod Improve
 pub mod Named
 pub mod Orders
 pub mod Passing
+pub mod Prefix
 pub mod Sets
 pub mod Takes
 pub mod Tight

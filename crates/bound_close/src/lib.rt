@@ -6,6 +6,7 @@ pub mod closure;
 pub mod copy;
 pub mod edge;
 pub mod order;
+pub mod over;
 pub mod passes;
 pub mod place;
 pub mod push;
