@@ -62,7 +62,6 @@ AtomSays a = (same_atom a a ≡ true) × ((b : Atom) → same_atom a b ≡ true 
 abbrev TermSays : Term → Type 0
 TermSays t = (same_term t t ≡ true) × ((u : Term) → same_term t u ≡ true → t ≡ u)
 
-
 at_is : (f : ArrayId) (t : Term) → ((u : Term) → same_term t u ≡ true → t ≡ u) → (y : Atom-F Atom Term) → same_open (Atom-F.At f (same_term t)) y ≡ true → roll-Atom (Atom-F.At f t) ≡ roll-Atom y
 at_is f t h Atom-F.Zero e = absurd (cc)
 at_is f t h Atom-F.N e = absurd (cc)
@@ -138,13 +137,14 @@ nnz_says =
 term_says : (t : Term-F Atom Term) → AtomSays t.atom → TermSays (roll-Term t)
 term_says t h =
     let step : (u : Term) → same_term (roll-Term t) u ≡ (same_atom t.atom u.atom && int_eq t.plus u.plus) = λ u. search (rules, ATOM.TheFolds.the_lemmas) in
-    let itself : same_term (roll-Term t) (roll-Term t) ≡ (same_atom t.atom t.atom && int_eq t.plus t.plus) = search (rules, ATOM.TheFolds.the_lemmas) in
-    (itself ∙ and (same_atom t.atom t.atom) (int_eq t.plus t.plus) h.0 ((Decides-int_eq t.plus t.plus).1 refl),
-     λ u e.
-      let p = both (same_atom t.atom u.atom) (int_eq t.plus u.plus) (sym (step u) ∙ e) in
-      let atom : t.atom ≡ u.atom = h.1 u.atom p.0 in
-      let plus : t.plus ≡ u.plus = (Decides-int_eq t.plus u.plus).0 p.1 in
-      ap (λ (a : Atom). let x : Term = record { atom = a; plus = t.plus } in x) atom ∙ ap (λ (z : ℤ). let x : Term = record { atom = u.atom; plus = z } in x) plus)
+    let itself : same_term (roll-Term t) (roll-Term t) ≡ (same_atom t.atom t.atom && int_eq t.plus t.plus) = search (rules, ATOM.TheFolds.the_lemmas) in (
+      itself ∙ and (same_atom t.atom t.atom) (int_eq t.plus t.plus) h.0 ((Decides-int_eq t.plus t.plus).1 refl),
+      λ u e.
+          let p = both (same_atom t.atom u.atom) (int_eq t.plus u.plus) (sym (step u) ∙ e) in
+          let atom : t.atom ≡ u.atom = h.1 u.atom p.0 in
+          let plus : t.plus ≡ u.plus = (Decides-int_eq t.plus u.plus).0 p.1 in
+          ap (λ (a : Atom). let x : Term = record { atom = a; plus = t.plus } in x) atom ∙ ap (λ (z : ℤ). let x : Term = record { atom = u.atom; plus = z } in x) plus,
+    )
 
 atom_from : {A B : Type 0} (pa : A → Atom) (pb : B → Term) → ((b : B) → TermSays (pb b)) → (y : Atom-F A B) (x : Atom-F Atom Term) → map-Atom A B Atom Term pa pb y ≡ x → AtomSays (roll-Atom x)
 atom_from pa pb fine (Atom-F.At f e) x is = subst (λ z. AtomSays (roll-Atom z)) is (at_says f (pb e) (fine e))
@@ -181,35 +181,35 @@ at-later a b bs h = rw h refl
 pub place-is : (u : List Atom) (a : Atom) → place_in u a < length u → atom_at u (place_in u a) ≡ a
 place-is [] a h = absurd (omega arith)
 place-is (b ∷ bs) a h = elim (test_cases (same_atom a b)) [
-    inl e ↦ rw (at-first a b bs e) (sym (same-is a b e))
+  | inl e ↦ rw (at-first a b bs e) (sym (same-is a b e))
   | inr n ↦ (let s = at-later a b bs n in rw s (place-is bs a (let l : suc (place_in bs a) < length (b ∷ bs) = rw s at h in omega arith)))
-  ]
+]
 
 listed-place : (u : List Atom) (a : Atom) (k : ℕ) → k < length u → atom_at u k ≡ a → place_in u a < length u
 listed-place [] a k l e = absurd (omega arith)
 listed-place (b ∷ bs) a zero l e = let s = at-first a b bs (subst (λ (c : Atom). same_atom a c ≡ true) (sym e) (same-itself a)) in rw s (omega arith)
 listed-place (b ∷ bs) a (suc k) l e = elim (test_cases (same_atom a b)) [
-    inl e ↦ (let s = at-first a b bs e in rw s (omega arith))
+  | inl e ↦ (let s = at-first a b bs e in rw s (omega arith))
   | inr n ↦ (let s = at-later a b bs n in let i = listed-place bs a k (omega arith) e in rw s (omega arith))
-  ]
+]
 
 -- a listed atom has a place
 pub place-in : (u : List Atom) (a : Atom) → Contains u a → place_in u a < length u
 place-in u a h = listed-place u a h.0 h.1 (get-zero u a h.0 h.1 h.2)
   where
-  get-zero : (u : List Atom) (a : Atom) (k : ℕ) → k < length u → slice_index_or u k a ≡ a → slice_index_or u k Zero ≡ a
-  get-zero [] a k l e = absurd (omega arith)
-  get-zero (b ∷ bs) a zero l e = e
-  get-zero (b ∷ bs) a (suc k) l e = get-zero bs a k (omega arith) e
+    get-zero : (u : List Atom) (a : Atom) (k : ℕ) → k < length u → slice_index_or u k a ≡ a → slice_index_or u k Zero ≡ a
+    get-zero [] a k l e = absurd (omega arith)
+    get-zero (b ∷ bs) a zero l e = e
+    get-zero (b ∷ bs) a (suc k) l e = get-zero bs a k (omega arith) e
 
 pub listed-at : (u : List Atom) (x : ℕ) → x < length u → is_listed u (atom_at u x) ≡ true
 listed-at [] x l = absurd (omega arith)
 listed-at (b ∷ bs) zero l = rw (same-itself b) refl
 listed-at (b ∷ bs) (suc x) l = later (same_atom (atom_at bs x) b) (is_listed bs (atom_at bs x)) (listed-at bs x (omega arith))
   where
-  later : (c d : Bool) → d ≡ true → (c || d) ≡ true
-  later true d h = refl
-  later false d h = h
+    later : (c d : Bool) → d ≡ true → (c || d) ≡ true
+    later true d h = refl
+    later false d h = h
 
 -- an atom with a place is listed
 pub contains-place : (u : List Atom) (a : Atom) → place_in u a < length u → Contains u a

@@ -55,9 +55,9 @@ module _ (u : List Atom) (base : List Diff) (rules : List RuleInst) (T : ℕ →
 
   known-rule : (r : RuleInst) (d : Diff) → Contains rules r → ((p : Diff) → Contains r.premises p → Known u T p.a p.b p.c) → Contains r.results d → Known u T d.a d.b d.c
   known-rule r d i ps j = elim (hr r i) [
-      inl f ↦ (let p = (ps f.0 f.1).holds in let q = f.2 in absurd (omega (arith, ints)))
+    | inl f ↦ (let p = (ps f.0 f.1).holds in let q = f.2 in absurd (omega (arith, ints)))
     | inr g ↦ known-diff d ((or r i).results d j) (g d j)
-    ]
+  ]
 
   pub known : {a b : Atom} {c : ℤ} → Derivable u base rules a b c → Known u T a b c
   known (given d h) = known-diff d (ob d h) (hb d h)
@@ -70,7 +70,7 @@ module _ (u : List Atom) (base : List Diff) (rules : List RuleInst) (T : ℕ →
   exact s = record {
     sound = s;
     least = λ a b c d. let k = known d in (k.left, k.right, k.known, k.holds);
-    consistent = λ d. let k = known d.1 in let e = t.itself (place_in u d.0) k.left in let f = k.holds in omega (arith, ints)
+    consistent = λ d. let k = known d.1 in let e = t.itself (place_in u d.0) k.left in let f = k.holds in omega (arith, ints);
   }
 
 -- a table in which nothing is known, and no steps
@@ -80,16 +80,16 @@ unit-sound u base rules T is x y lx ly h =
     let d : Derivable u base rules (atom_at u x) (atom_at u x) (pos 0) = same (atom_at u x) (x, lx, get-itself u x lx) in
     subst (λ (k : ℕ). Derivable u base rules (atom_at u x) (atom_at u k) (T x k)) e (subst (λ (z : ℤ). Derivable u base rules (atom_at u x) (atom_at u x) z) (sym (unit_same (length u) T is x lx)) d)
   where
-  get-itself : (u : List Atom) (x : ℕ) → x < length u → slice_index_or u x (atom_at u x) ≡ atom_at u x
-  get-itself [] x l = absurd (omega arith)
-  get-itself (b ∷ bs) zero l = refl
-  get-itself (b ∷ bs) (suc x) l = get-itself bs x (omega arith)
+    get-itself : (u : List Atom) (x : ℕ) → x < length u → slice_index_or u x (atom_at u x) ≡ atom_at u x
+    get-itself [] x l = absurd (omega arith)
+    get-itself (b ∷ bs) zero l = refl
+    get-itself (b ∷ bs) (suc x) l = get-itself bs x (omega arith)
 
 pub kept-first : (u : List Atom) (base : List Diff) (rules : List RuleInst) (w : Workings) → ((x y : ℕ) → x < length u → y < length u → bounds w x y ≡ unit_bound x y) → w.table.edges.items ≡ no_edge ∷ [] → w.steps ≡ [] → Kept u base rules w
 kept-first u base rules w each edges steps = record {
-    sound = unit-sound u base rules (bounds w) each;
-    logged = ([], rw steps empty, rw edges (λ e l g. absurd (omega arith)))
-  }
+  sound = unit-sound u base rules (bounds w) each;
+  logged = ([], rw steps empty, rw edges (λ e l g. absurd (omega arith)));
+}
 
 module _ (u : List Atom) (base : List Diff) (rules : List RuleInst) (old mid new : Workings) (few : length u ≤ 96) (ob : AreOver u base) (or : AreRulesOver u rules) (t : Taken u base base old mid) where
   pub closed : Forward u rules mid new → AllSettled u rules new → Kept u base rules old → Closed u base rules new
@@ -99,7 +99,7 @@ module _ (u : List Atom) (base : List Diff) (rules : List RuleInst) (old mid new
       record {
         fine = f.fine;
         exact = exact u base rules (bounds new) few sums ob or (Holds-lower u (bounds mid) (bounds new) base (f.onward base).lower ob t.holds) s m.sound;
-        logged = m.logged
+        logged = m.logged;
       }
 
   pub halts : Halted u base rules mid new → Halted u base rules old new
@@ -143,15 +143,15 @@ module _ (k : Found) (base : List Diff) (rules : List RuleInst) (h : IsClosure k
   -- it is contradictory exactly where it is refuted
   pub refuted-is : IsContradictory k.atoms base rules → k.refuted ≡ true
   refuted-is d = elim (test_is k.refuted) [
-      inl e ↦ e
+    | inl e ↦ e
     | inr e ↦ absurd ((h.found e).exact.consistent d)
-    ]
+  ]
 
   pub not-refuted : (IsContradictory k.atoms base rules → ⊥) → k.refuted ≡ false
   not-refuted n = elim (test_is k.refuted) [
-      inl e ↦ absurd (n (h.refuted e).contradictory)
+    | inl e ↦ absurd (n (h.refuted e).contradictory)
     | inr e ↦ e
-    ]
+  ]
 
   module _ (a b : Atom) where
     pub none-derivable : NotBetween k a b → k.refuted ≡ false → (c : ℤ) → Derivable k.atoms base rules a b c → ⊥

@@ -44,6 +44,6 @@ count-two f g h (suc n) p q r =
 pub count-has : (f : ℕ → Bool) (n k : ℕ) → k < n → f k ≡ true → 1 ≤ count f n
 count-has f zero k l h = absurd (omega arith)
 count-has f (suc n) k l h = elim (cases_eq k n) [
-    inl e ↦ (let g : f n ≡ true = rw (← e) h in rw g (omega arith))
+  | inl e ↦ (let g : f n ≡ true = rw (← e) h in rw g (omega arith))
   | inr ne ↦ (let i = count-has f n k (omega arith) h in omega arith)
-  ]
+]

@@ -43,7 +43,7 @@ module _ (rows new : List (List ℤ)) (marks after : List (List ℕ)) (edges : L
     in_shape = subst (λ (n : ℕ). IsMarks n after) (sym long) im;
     below = λ x y lx ly. let b = mark-most (entry rows x y) (entry new x y) (mark_at marks x y) (length edges) (let l = t.below x y (omega arith) (omega arith) in omega arith) in let e : mark_at after x y ≡ mark_of (entry rows x y) (entry new x y) (mark_at marks x y) (length edges) = am x (omega arith) y (omega arith) in let n = length-append edges (edge ∷ []) in omega arith;
     traced = subst (λ (n : ℕ). Traced n (entry new) (mark_at after) (edge_a (edges ++ edge ∷ [])) (edge_b (edges ++ edge ∷ [])) (edge_c (edges ++ edge ∷ []))) (sym long)
-      (Traced-add (length rows) (entry rows) (entry new) (mark_at marks) (mark_at after) (edge_a (edges ++ edge ∷ [])) (edge_b (edges ++ edge ∷ [])) (edge_c (edges ++ edge ∷ [])) (length edges) t.table.few t.table.sums
+        (Traced-add (length rows) (entry rows) (entry new) (mark_at marks) (mark_at after) (edge_a (edges ++ edge ∷ [])) (edge_b (edges ++ edge ∷ [])) (edge_c (edges ++ edge ∷ [])) (length edges) t.table.few t.table.sums
         (subst (λ (g : Edge). Adds (length rows) (entry rows) g.a g.b g.c (entry new)) (sym new_edge) u)
         (subst (λ (g : Edge). g.a < length rows) (sym new_edge) la)
         (subst (λ (g : Edge). g.b < length rows) (sym new_edge) lb)
@@ -52,18 +52,18 @@ module _ (rows new : List (List ℤ)) (marks after : List (List ℕ)) (edges : L
         record {
           fresh = t.below;
           same = λ x y lx ly e. am x lx y ly ∙ mark-kept (entry rows x y) (entry new x y) (mark_at marks x y) (length edges) e;
-          new = λ x y lx ly h. am x lx y ly ∙ mark-lower (entry rows x y) (entry new x y) (mark_at marks x y) (length edges) h
+          new = λ x y lx ly h. am x lx y ly ∙ mark-lower (entry rows x y) (entry new x y) (mark_at marks x y) (length edges) h;
         }
-        extended)
+        extended);
   }
 
 pub IsTraced-unit : (rows : List (List ℤ)) (marks : List (List ℕ)) (m : ℕ) → length rows ≡ m → IsTable rows → IsMarks m marks → ((x y : ℕ) → x < m → y < m → mark_at marks x y ≡ 0) → ((x y : ℕ) → x < m → y < m → entry rows x y ≡ unit_bound x y) → IsTraced rows marks (no_edge ∷ [])
 IsTraced-unit rows marks m long table shape none each = record {
-    table = table;
-    in_shape = subst (λ (n : ℕ). IsMarks n marks) (sym long) shape;
-    below = λ x y lx ly. let e = none x y (omega arith) (omega arith) in omega arith;
-    traced = λ x y lx ly h. inl (unit_finite m (entry rows) each x y (omega arith) (omega arith) h, none x y (omega arith) (omega arith))
-  }
+  table = table;
+  in_shape = subst (λ (n : ℕ). IsMarks n marks) (sym long) shape;
+  below = λ x y lx ly. let e = none x y (omega arith) (omega arith) in omega arith;
+  traced = λ x y lx ly h. inl (unit_finite m (entry rows) each x y (omega arith) (omega arith) h, none x y (omega arith) (omega arith));
+}
 
 -- what a list holds after a slice of all of it was changed
 pub lent : {A : Type 0} (xs new : List A) (n : ℕ) → n ≡ length new → take n (new ++ drop (length new) xs) ≡ new

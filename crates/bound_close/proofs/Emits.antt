@@ -27,9 +27,9 @@ get-left (y ∷ xs) ys (suc k) x h = get-left xs ys k x h
 pub get-last : {X : Type 0} (xs : List X) (x : X) (k : ℕ) → k ≡ length xs → slice_get (xs ++ x ∷ []) k ≡ Some x
 get-last xs x k e = rw e (go xs x)
   where
-  go : {X : Type 0} (xs : List X) (x : X) → slice_get (xs ++ x ∷ []) (length xs) ≡ Some x
-  go [] x = refl
-  go (y ∷ xs) x = go xs x
+    go : {X : Type 0} (xs : List X) (x : X) → slice_get (xs ++ x ∷ []) (length xs) ≡ Some x
+    go [] x = refl
+    go (y ∷ xs) x = go xs x
 
 pub log-length : {u : List Atom} {base : List Diff} {rules : List RuleInst} {steps : List Step} {ds : List Diff} → IsLog u base rules steps ds → length ds ≡ length steps
 log-length empty = refl
@@ -51,11 +51,12 @@ module _ (u : List Atom) (edges : List Edge) where
   pub emit-same : (old new : List Step) (k x : ℕ) → x < length u → new ≡ old ++ Same (atom_at u x) ∷ [] → k ≡ length old → Emitted u edges old new k (diff_at u x x (pos 0))
   emit-same old new k x lx en ek = record {
     each = λ base rules ds log ein.
-      let n = log-length log in
-      (diff_at u x x (pos 0) ∷ [],
-       rw en (more old ds (Same (atom_at u x)) (diff_at u x x (pos 0)) log (same-given u x lx)),
-       get-last ds (diff_at u x x (pos 0)) k (omega arith))
-    }
+        let n = log-length log in (
+          diff_at u x x (pos 0) ∷ [],
+          rw en (more old ds (Same (atom_at u x)) (diff_at u x x (pos 0)) log (same-given u x lx)),
+          get-last ds (diff_at u x x (pos 0)) k (omega arith),
+        );
+  }
 
   pub emit-edge : (old : List Step) (e : ℕ) → 0 < e → e < length edges → Emitted u edges old old (edge_at edges e).step (edge_diff u edges e)
   emit-edge old e l g = record { each = λ base rules ds log ein. ([], rw append-nil log, rw append-nil (ein e l g)) }
@@ -63,35 +64,35 @@ module _ (u : List Atom) (edges : List Edge) where
   pub emit-join : (old one two new : List Step) (k1 k2 k x z y : ℕ) (p q : ℤ) → Emitted u edges old one k1 (diff_at u x z p) → Emitted u edges one two k2 (diff_at u z y q) → new ≡ two ++ Sum k1 k2 ∷ [] → k ≡ length two → fits (p +ℤ q) ≡ true → Emitted u edges old new k (diff_at u x y (p +ℤ q))
   emit-join old one two new k1 k2 k x z y p q f g en ek fit = record {
     each = λ base rules ds log ein.
-      let r1 = f.each base rules ds log ein in
-      let ds1 : List Diff = ds ++ r1.0 in
-      let r2 = g.each base rules ds1 r1.1 (edges-left u ds r1.0 edges ein) in
-      let ds2 : List Diff = ds1 ++ r2.0 in
-      let d : Diff = diff_at u x y (p +ℤ q) in
-      let get1 : slice_get ds2 k1 ≡ Some (diff_at u x z p) = get-left ds1 r2.0 k1 (diff_at u x z p) r1.2 in
-      let get2 : slice_get ds2 k2 ≡ Some (diff_at u z y q) = r2.2 in
-      let c : conclusion u base rules ds2 (Sum k1 k2) ≡ Some d = rw (get1, get2) (sum-given (atom_at u x) (atom_at u z) (atom_at u y) p q fit) in
-      let log2 : IsLog u base rules new (ds2 ++ d ∷ []) = rw en (more two ds2 (Sum k1 k2) d r2.1 c) in
-      let n = log-length r2.1 in
-      let last : slice_get (ds2 ++ d ∷ []) k ≡ Some d = get-last ds2 d k (omega arith) in
-      let same : ds ++ (r1.0 ++ (r2.0 ++ d ∷ [])) ≡ ds2 ++ d ∷ [] = simp append_assoc in
-      (r1.0 ++ (r2.0 ++ d ∷ []), rw same log2, rw same last)
-    }
+        let r1 = f.each base rules ds log ein in
+        let ds1 : List Diff = ds ++ r1.0 in
+        let r2 = g.each base rules ds1 r1.1 (edges-left u ds r1.0 edges ein) in
+        let ds2 : List Diff = ds1 ++ r2.0 in
+        let d : Diff = diff_at u x y (p +ℤ q) in
+        let get1 : slice_get ds2 k1 ≡ Some (diff_at u x z p) = get-left ds1 r2.0 k1 (diff_at u x z p) r1.2 in
+        let get2 : slice_get ds2 k2 ≡ Some (diff_at u z y q) = r2.2 in
+        let c : conclusion u base rules ds2 (Sum k1 k2) ≡ Some d = rw (get1, get2) (sum-given (atom_at u x) (atom_at u z) (atom_at u y) p q fit) in
+        let log2 : IsLog u base rules new (ds2 ++ d ∷ []) = rw en (more two ds2 (Sum k1 k2) d r2.1 c) in
+        let n = log-length r2.1 in
+        let last : slice_get (ds2 ++ d ∷ []) k ≡ Some d = get-last ds2 d k (omega arith) in
+        let same : ds ++ (r1.0 ++ (r2.0 ++ d ∷ [])) ≡ ds2 ++ d ∷ [] = simp append_assoc in
+        (r1.0 ++ (r2.0 ++ d ∷ []), rw same log2, rw same last);
+  }
 
   pub emit-weaken : (old one new : List Step) (k1 k x y : ℕ) (z c : ℤ) → Emitted u edges old one k1 (diff_at u x y z) → z ≤ℤ c → new ≡ one ++ Weaken k1 c ∷ [] → k ≡ length one → Emitted u edges old new k (diff_at u x y c)
   emit-weaken old one new k1 k x y z c f h en ek = record {
     each = λ base rules ds log ein.
-      let r = f.each base rules ds log ein in
-      let ds1 : List Diff = ds ++ r.0 in
-      let d : Diff = diff_at u x y c in
-      let got : slice_get ds1 k1 ≡ Some (diff_at u x y z) = r.2 in
-      let given : conclusion u base rules ds1 (Weaken k1 c) ≡ Some d = rw got (weaken-given (atom_at u x) (atom_at u y) z c h) in
-      let log1 : IsLog u base rules new (ds1 ++ d ∷ []) = rw en (more one ds1 (Weaken k1 c) d r.1 given) in
-      let n = log-length r.1 in
-      let last : slice_get (ds1 ++ d ∷ []) k ≡ Some d = get-last ds1 d k (omega arith) in
-      let same : ds ++ (r.0 ++ d ∷ []) ≡ ds1 ++ d ∷ [] = simp append_assoc in
-      (r.0 ++ d ∷ [], rw same log1, rw same last)
-    }
+        let r = f.each base rules ds log ein in
+        let ds1 : List Diff = ds ++ r.0 in
+        let d : Diff = diff_at u x y c in
+        let got : slice_get ds1 k1 ≡ Some (diff_at u x y z) = r.2 in
+        let given : conclusion u base rules ds1 (Weaken k1 c) ≡ Some d = rw got (weaken-given (atom_at u x) (atom_at u y) z c h) in
+        let log1 : IsLog u base rules new (ds1 ++ d ∷ []) = rw en (more one ds1 (Weaken k1 c) d r.1 given) in
+        let n = log-length r.1 in
+        let last : slice_get (ds1 ++ d ∷ []) k ≡ Some d = get-last ds1 d k (omega arith) in
+        let same : ds ++ (r.0 ++ d ∷ []) ≡ ds1 ++ d ∷ [] = simp append_assoc in
+        (r.0 ++ d ∷ [], rw same log1, rw same last);
+  }
 
   pub refuting : (old one two new : List Step) (edge : Edge) (k sum : ℕ) (q : ℤ) → Emitted u edges old one k (diff_at u edge.b edge.a q) → two ≡ one ++ Sum edge.step k ∷ [] → sum ≡ length one → new ≡ two ++ Weaken sum (negsuc 0) ∷ [] → (edge.c +ℤ q) ≤ℤ negsuc 0 → fits (edge.c +ℤ q) ≡ true → Refuting u edges old new edge
   refuting old one two new edge k sum q f e2 es en low fit base rules ds log ein got =
@@ -116,15 +117,15 @@ mark-read marks r x y g lx e h = ap (λ (l : List ℕ). slice_index_or l y 0) (s
 
 pub traced-same : (m : ℕ) (T : ℕ → ℕ → ℤ) (M : ℕ → ℕ → ℕ) (ea eb : ℕ → ℕ) (ec : ℕ → ℤ) (x y g : ℕ) → Traced m T M ea eb ec → x < m → y < m → T x y <ℤ far → M x y ≡ g → g ≡ 0 → x ≡ y
 traced-same m T M ea eb ec x y g t lx ly h e z = elim (t x y lx ly h) [
-    inl p ↦ p.0
+  | inl p ↦ p.0
   | inr v ↦ absurd (let b = v.before in omega arith)
-  ]
+]
 
 pub traced-via : (m : ℕ) (T : ℕ → ℕ → ℤ) (M : ℕ → ℕ → ℕ) (ea eb : ℕ → ℕ) (ec : ℕ → ℤ) (x y g : ℕ) → Traced m T M ea eb ec → x < m → y < m → T x y <ℤ far → M x y ≡ g → (g ≡ 0 → ⊥) → Via m T M x y (ea g) (eb g) (ec g) g
 traced-via m T M ea eb ec x y g t lx ly h e z = subst (λ (g : ℕ). Via m T M x y (ea g) (eb g) (ec g) g) e (elim (t x y lx ly h) [
-    inl p ↦ absurd (z (sym e ∙ p.1))
+  | inl p ↦ absurd (z (sym e ∙ p.1))
   | inr v ↦ v
-  ])
+])
 
 diff-is : (u : List Atom) (x a y b : ℕ) (z c : ℤ) → x ≡ a → y ≡ b → z ≡ c → diff_at u x y z ≡ diff_at u a b c
 diff-is u x a y b z c p q r = rw (p, q, r) refl
@@ -164,7 +165,7 @@ module _ (u : List Atom) (edges : List Edge) (m : ℕ) (T : ℕ → ℕ → ℤ)
   way-second old one new k2 k ea f en ek =
       let s = v.sum in let p = from_start ea in
       subst (λ (d : Diff). Emitted u edges old new k d) (diff-is u e.a x y y (e.c +ℤ T e.b y) (T x y) ea refl (omega (arith, ints)))
-        (emit-join u edges old old one new e.step k2 k e.a e.b y e.c (T e.b y) (emit-this old) f en ek fits-second)
+      (emit-join u edges old old one new e.step k2 k e.a e.b y e.c (T e.b y) (emit-this old) f en ek fits-second)
 
   pub way-first : (old one new : List Step) (k1 k : ℕ) → Emitted u edges old one k1 (diff_at u x e.a (T x e.a)) → new ≡ one ++ Sum k1 e.step ∷ [] → k ≡ length one → Emitted u edges old new k (diff_at u x e.b (T x e.a +ℤ e.c))
   way-first old one new k1 k f en ek =
@@ -178,7 +179,7 @@ module _ (u : List Atom) (edges : List Edge) (m : ℕ) (T : ℕ → ℕ → ℤ)
   pub way-both : (old one two new : List Step) (k1 k2 k : ℕ) → Emitted u edges old one k1 (diff_at u x e.b (T x e.a +ℤ e.c)) → Emitted u edges one two k2 (diff_at u e.b y (T e.b y)) → new ≡ two ++ Sum k1 k2 ∷ [] → k ≡ length two → Emitted u edges old new k (diff_at u x y (T x y))
   way-both old one two new k1 k2 k f h en ek =
       subst (λ (d : Diff). Emitted u edges old new k d) (diff-is u x x y y (T x e.a +ℤ e.c +ℤ T e.b y) (T x y) refl refl (sym v.sum))
-        (emit-join u edges old one two new k1 k2 k x e.b y (T x e.a +ℤ e.c) (T e.b y) f h en ek fits-both)
+      (emit-join u edges old one two new k1 k2 k x e.b y (T x e.a +ℤ e.c) (T e.b y) f h en ek fits-both)
 
 -- one fact for each outcome, from two
 pub if-ok : {X E : Type 0} (r : Result X E) (P R : X → Type 0) (Q : Type 0) → IfOk r P → OnOk r Q → ((x : X) → P x → Q → R x) → IfOk r R

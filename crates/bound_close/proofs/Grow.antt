@@ -68,11 +68,11 @@ module _ (u : List Atom) (d : Diff) (o : IsOver u d) where
 
   Adds-sound : (T U : ℕ → ℕ → ℤ) (base : List Diff) (rules : List RuleInst) → Adds (length u) T (place_in u d.a) (place_in u d.b) d.c U → Derivable u base rules d.a d.b d.c → IsSound u base rules T → IsSound u base rules U
   Adds-sound T U base rules w h s x y lx ly f = elim (w.cases x y lx ly) [
-      inl e ↦ rw e (s x y lx ly (rw (← e) f))
+    | inl e ↦ rw e (s x y lx ly (rw (← e) f))
     | inr p ↦ rw p.2 (joined (atom_at u x) (atom_at u (place_in u d.b)) (atom_at u y) (T x (place_in u d.a) +ℤ d.c) (T (place_in u d.b) y)
         (joined (atom_at u x) (atom_at u (place_in u d.a)) (atom_at u (place_in u d.b)) (T x (place_in u d.a)) d.c (s x (place_in u d.a) lx a_in p.0) (placed base rules h))
         (s (place_in u d.b) y b_in ly p.1))
-    ]
+  ]
 
   contradicts : (T : ℕ → ℕ → ℤ) (base : List Diff) (rules : List RuleInst) → T (place_in u d.b) (place_in u d.a) <ℤ far → (T (place_in u d.b) (place_in u d.a) +ℤ d.c) <ℤ pos 0 → Derivable u base rules d.a d.b d.c → IsSound u base rules T → IsContradictory u base rules
   contradicts T base rules f low h s =
@@ -92,18 +92,18 @@ module _ (u : List Atom) (ds : List Diff) (d : Diff) (edges : List Edge) (edge :
   edges-more e l g =
       let n = length-append edges (edge ∷ []) in
       elim (cases_lt e (length edges)) [
-        inl lt ↦ (let P : Edge → Type 0 = λ g. slice_get (ds ++ d ∷ []) g.step ≡ Some (diff_at u g.a g.b g.c) in subst P (sym (old_edge e lt)) (get-left ds (d ∷ []) (edge_at edges e).step (edge_diff u edges e) (h e l lt)))
-      | inr ge ↦ (let P : Edge → Type 0 = λ g. slice_get (ds ++ d ∷ []) g.step ≡ Some (diff_at u g.a g.b g.c) in subst P (sym (new_edge e (omega arith))) (get-last ds d edge.step k ∙ ap Some (sym is)))
+        | inl lt ↦ (let P : Edge → Type 0 = λ g. slice_get (ds ++ d ∷ []) g.step ≡ Some (diff_at u g.a g.b g.c) in subst P (sym (old_edge e lt)) (get-left ds (d ∷ []) (edge_at edges e).step (edge_diff u edges e) (h e l lt)))
+        | inr ge ↦ (let P : Edge → Type 0 = λ g. slice_get (ds ++ d ∷ []) g.step ≡ Some (diff_at u g.a g.b g.c) in subst P (sym (new_edge e (omega arith))) (get-last ds d edge.step k ∙ ap Some (sym is)))
       ]
 
 pub grown-known : (u : List Atom) (w : Workings) (d : Diff) (s : Step) → IsFine u w → bound_of u (bounds w) d ≤ℤ d.c → Grown u w w d s
 grown-known u w d s f h = record {
-    fine = f;
-    lower = lower-refl (length u) (bounds w);
-    holds = h;
-    sound = λ base rules t i. t;
-    longer = λ base rules ds log ein c. ([], rw append-nil log, rw append-nil ein)
-  }
+  fine = f;
+  lower = lower-refl (length u) (bounds w);
+  holds = h;
+  sound = λ base rules t i. t;
+  longer = λ base rules ds log ein c. ([], rw append-nil log, rw append-nil ein);
+}
 
 abbrev pub edge_of : List Atom → Diff → ℕ → Edge
 edge_of u d k = record { a = place_in u d.a; b = place_in u d.b; c = d.c; step = k }
@@ -119,8 +119,8 @@ module _ (u : List Atom) (old new : Workings) (d : Diff) (s : Step) (f : IsFine 
         holds = Adds-holds (length u) (bounds old) (place_in u d.a) (place_in u d.b) d.c (bounds new) (a_in u d o) (b_in u d o) sums w;
         sound = λ base rules t h. Adds-sound u d o (bounds old) (bounds new) base rules w h t;
         longer = λ base rules ds log ein c.
-          let n = log-length log in
-          (d ∷ [], rw steps (more old.steps ds s d log c), rw edges (edges-more u ds d old.table.edges.items (edge_of u d (length old.steps)) ein (sym n) (diff-at u d o)))
+            let n = log-length log in
+            (d ∷ [], rw steps (more old.steps ds s d log c), rw edges (edges-more u ds d old.table.edges.items (edge_of u d (length old.steps)) ein (sym n) (diff-at u d o)));
       }
 
   pub clash : (mid : List Step) → mid ≡ old.steps ++ s ∷ [] → bounds old (place_in u d.b) (place_in u d.a) <ℤ far → (bounds old (place_in u d.b) (place_in u d.a) +ℤ d.c) <ℤ pos 0 → Refuting u old.table.edges.items mid new.steps (edge_of u d (length old.steps)) → Clashes u old new d s
@@ -129,5 +129,5 @@ module _ (u : List Atom) (old new : Workings) (d : Diff) (s : Step) (f : IsFine 
       record {
         contradictory = contradicts u d o (bounds old) base rules fin low h t;
         shown = r base rules (ds ++ d ∷ []) (rw is (more old.steps ds s d log c)) (edges-left u ds (d ∷ []) old.table.edges.items ein)
-          (get-last ds d (length old.steps) (sym n) ∙ ap Some (sym (diff-at u d o)))
+            (get-last ds d (length old.steps) (sym n) ∙ ap Some (sym (diff-at u d o)));
       }

@@ -26,10 +26,10 @@ unfolding by_way
 by_way-cases p c q t =
     by_lt_z p far
     (λ h. by_lt_z q far
-      (λ i. by_lt_z (p +ℤ c +ℤ q) t
-        (λ j. inr (h, i, grind (arith, ints), grind (arith, ints)))
-        (λ j. inl (grind (arith, ints))))
-      (λ i. inl (grind (arith, ints))))
+    (λ i. by_lt_z (p +ℤ c +ℤ q) t
+    (λ j. inr (h, i, grind (arith, ints), grind (arith, ints)))
+    (λ j. inl (grind (arith, ints))))
+    (λ i. inl (grind (arith, ints))))
     (λ h. inl (grind (arith, ints)))
 
 module _ (rows new : List (List ℤ)) (from : List ℤ) (a b : ℕ) (c : ℤ) (is : from ≡ slice_index_or rows b []) (t : IsTable rows) (la : a < length rows) (lb : b < length rows) (few : Within 8388608 c) (ok : entry rows b a <ℤ far → pos 0 ≤ℤ (entry rows b a +ℤ c)) (long : length new ≡ length rows) (wide : (x : ℕ) → x < length rows → length (slice_index_or new x []) ≡ length from) (each : (x y : ℕ) → x < length rows → y < length from → entry new x y ≡ lowered a from c (slice_index_or rows x []) y) where
@@ -44,21 +44,21 @@ module _ (rows new : List (List ℤ)) (from : List ℤ) (a b : ℕ) (c : ℤ) (i
   Adds-improved = record {
     lower = λ x y lx ly. rw (is_by_way x y lx ly) (by_way-lower (entry rows x a) c (entry rows b y) (entry rows x y));
     through = λ x y lx ly h i. rw (is_by_way x y lx ly) (by_way-through (entry rows x a) c (entry rows b y) (entry rows x y) h i);
-    cases = λ x y lx ly. rw (is_by_way x y lx ly) (by_way-cases (entry rows x a) c (entry rows b y) (entry rows x y))
+    cases = λ x y lx ly. rw (is_by_way x y lx ly) (by_way-cases (entry rows x a) c (entry rows b y) (entry rows x y));
   }
 
   pub IsTable-improved : IsTable new
   IsTable-improved = record {
     few = let f = t.few in omega arith;
     wide = λ x l. wide x (omega arith) ∙ from_wide ∙ sym long;
-    sums = subst (λ (n : ℕ). Sums n (entry new)) (sym long) (Sums-add (length rows) (entry rows) a b c (entry new) t.few t.sums Adds-improved la lb few.high few.low ok)
+    sums = subst (λ (n : ℕ). Sums n (entry new)) (sym long) (Sums-add (length rows) (entry rows) a b c (entry new) t.few t.sums Adds-improved la lb few.high few.low ok);
   }
 
 -- a constraint that holds already
 pub Adds-known : (m : ℕ) (T : ℕ → ℕ → ℤ) (a b : ℕ) (c : ℤ) → m ≤ 96 → Sums m T → a < m → b < m → Within 8388608 c → T a b ≤ℤ c → Adds m T a b c T
 Adds-known m T a b c few t la lb w h = record {
-    lower = λ x y lx ly. omega (arith, ints);
-    through = λ x y lx ly p q.
+  lower = λ x y lx ly. omega (arith, ints);
+  through = λ x y lx ly p q.
       let hi = w.high in
       let ab : T a b <ℤ far = omega (arith, ints) in
       let r = range m T few t x a lx la p in
@@ -66,8 +66,8 @@ Adds-known m T a b c few t la lb w h = record {
       let i = t.below x a b lx la lb p ab in
       let j = t.below x b y lx lb ly (omega (arith, ints)) q in
       omega (arith, ints);
-    cases = λ x y lx ly. inl refl
-  }
+  cases = λ x y lx ly. inl refl;
+}
 
 pub row-range : (rows : List (List ℤ)) (from : List ℤ) (b : ℕ) → IsTable rows → b < length rows → from ≡ slice_index_or rows b [] → (y : ℕ) → y < length from → cell from y <ℤ far → Within 1073741824 (cell from y)
 row-range rows from b t lb e =
@@ -100,12 +100,12 @@ module _ (m : ℕ) (T : ℕ → ℕ → ℤ) (is : (x y : ℕ) → x < m → y <
     itself = unit_same;
     below = λ x z y lx lz ly h i. let e : x ≡ z = unit_finite x z lx lz h in let f : T x x ≡ pos 0 = unit_same x lx in subst (λ (k : ℕ). T x y ≤ℤ (T x k +ℤ T k y)) e (omega (arith, ints));
     high = λ x y lx ly h. subst (λ (k : ℕ). (T x k +ℤ pos 8388608) ≤ℤ pos (8388608 * count (on_way T x k) m)) (unit_finite x y lx ly h) (let e = unit_same x lx in let g = unit-counts x lx in omega (arith, ints));
-    low = λ x y lx ly h. subst (λ (k : ℕ). pos 8388608 ≤ℤ (T x k +ℤ pos (8388608 * count (on_way T x k) m))) (unit_finite x y lx ly h) (let e = unit_same x lx in let g = unit-counts x lx in omega (arith, ints))
+    low = λ x y lx ly h. subst (λ (k : ℕ). pos 8388608 ≤ℤ (T x k +ℤ pos (8388608 * count (on_way T x k) m))) (unit_finite x y lx ly h) (let e = unit_same x lx in let g = unit-counts x lx in omega (arith, ints));
   }
 
 pub IsTable-unit : (rows : List (List ℤ)) (m : ℕ) → m ≤ 96 → length rows ≡ m → ((x : ℕ) → x < m → length (slice_index_or rows x []) ≡ m) → ((x y : ℕ) → x < m → y < m → entry rows x y ≡ unit_bound x y) → IsTable rows
 IsTable-unit rows m few long wide each = record {
-    few = omega arith;
-    wide = λ x l. wide x (omega arith) ∙ sym long;
-    sums = subst (λ (n : ℕ). Sums n (entry rows)) (sym long) (Sums-unit m (entry rows) each)
-  }
+  few = omega arith;
+  wide = λ x l. wide x (omega arith) ∙ sym long;
+  sums = subst (λ (n : ℕ). Sums n (entry rows)) (sym long) (Sums-unit m (entry rows) each);
+}

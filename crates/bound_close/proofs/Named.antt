@@ -26,7 +26,7 @@ parts false c h = absurd (cc)
 diff-itself : (p : Diff) → same_diff p p ≡ true
 diff-itself p =
     both-true (same_atom p.a p.a) (same_atom p.b p.b && int_eq p.c p.c) (same-itself p.a)
-      (both-true (same_atom p.b p.b) (int_eq p.c p.c) (same-itself p.b) ((Decides-int_eq p.c p.c).1 refl))
+    (both-true (same_atom p.b p.b) (int_eq p.c p.c) (same-itself p.b) ((Decides-int_eq p.c p.c).1 refl))
 
 found-left : (earlier rest : List Diff) (k : ℕ) (p : Diff) (o : Option Diff) → slice_get earlier k ≡ o → option_map_or (same_diff p) o false ≡ true → option_map_or (same_diff p) (slice_get (earlier ++ rest) k) false ≡ true
 found-left earlier rest k p None e h = absurd (cc)
@@ -54,10 +54,10 @@ naming-none u edges old = record { each = λ base rules ds log ein. ([], rw appe
 pub naming-more : (u : List Atom) (edges : List Edge) (old mid new : List Step) (ps : List Diff) (ks : List ℕ) (k : ℕ) (p : Diff) → Naming u edges old mid ps ks → Emitted u edges mid new k p → Naming u edges old new (ps ++ p ∷ []) (ks ++ k ∷ [])
 naming-more u edges old mid new ps ks k p n e = record {
   each = λ base rules ds log ein.
-    let r1 = n.each base rules ds log ein in
-    let ds1 : List Diff = ds ++ r1.0 in
-    let r2 = e.each base rules ds1 r1.1 (edges-left u ds r1.0 edges ein) in
-    let kept : named (ds1 ++ r2.0) ps ks ≡ true = named-left ds1 r2.0 ps ks r1.2 in
-    let same : ds ++ (r1.0 ++ r2.0) ≡ ds1 ++ r2.0 = simp append_assoc in
-    (r1.0 ++ r2.0, rw same r2.1, rw same (named-last (ds1 ++ r2.0) ps ks p k kept r2.2))
-  }
+      let r1 = n.each base rules ds log ein in
+      let ds1 : List Diff = ds ++ r1.0 in
+      let r2 = e.each base rules ds1 r1.1 (edges-left u ds r1.0 edges ein) in
+      let kept : named (ds1 ++ r2.0) ps ks ≡ true = named-left ds1 r2.0 ps ks r1.2 in
+      let same : ds ++ (r1.0 ++ r2.0) ≡ ds1 ++ r2.0 = simp append_assoc in
+      (r1.0 ++ r2.0, rw same r2.1, rw same (named-last (ds1 ++ r2.0) ps ks p k kept r2.2));
+}

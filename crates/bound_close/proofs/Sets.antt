@@ -30,9 +30,9 @@ put-done now before i v d P lt h e = below_more (λ k. P k (slice_index_or (slic
 
 pub put-all : {A B : Type 0} (now : List A) (before : List B) (i : ℕ) (v d : A) (P : A → Type 0) → i < length now → ((k : ℕ) → k < length before → P (slice_index_or now k d)) → P v → (k : ℕ) → k < length before → P (slice_index_or (slice_set now i v) k d)
 put-all now before i v d P lt h e k l = elim (cases_eq k i) [
-    inl q ↦ rw q (rw get_or-set_same e)
+  | inl q ↦ rw q (rw get_or-set_same e)
   | inr ne ↦ rw get_or-set_other (h k l)
-  ]
+]
 
 pub put-left : {A : Type 0} (now before : List A) (i : ℕ) (v d : A) → ((k : ℕ) → i ≤ k → slice_index_or now k d ≡ slice_index_or before k d) → (k : ℕ) → i + 1 ≤ k → slice_index_or (slice_set now i v) k d ≡ slice_index_or before k d
 put-left now before i v d h k l = let ne : k ≢ i = omega arith in let le : i ≤ k = omega arith in rw get_or-set_other (h k le)

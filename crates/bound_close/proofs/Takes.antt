@@ -49,8 +49,8 @@ over-take u ds i o d h = o d (Contains-take ds i d h)
 pub Holds-more : (u : List Atom) (T : ℕ → ℕ → ℤ) (ds : List Diff) (i : ℕ) (e : Diff) → i < length ds → Holds u T (take i ds) → bound_of u T e ≤ℤ e.c → e ≡ slice_index_or ds i e → Holds u T (take (i + 1) ds)
 Holds-more u T ds i e lt h x is d p =
     elim (Contains-push_cases (take i ds) (slice_index_or ds i e) d (subst (λ (l : List Diff). Contains l d) (take_more ds i e lt) p)) [
-      inl q ↦ h d q
-    | inr q ↦ subst (λ (d : Diff). bound_of u T d ≤ℤ d.c) (is ∙ q) x
+      | inl q ↦ h d q
+      | inr q ↦ subst (λ (d : Diff). bound_of u T d ≤ℤ d.c) (is ∙ q) x
     ]
 
 pub Holds-all : (u : List Atom) (T : ℕ → ℕ → ℤ) (ds : List Diff) (i : ℕ) → i ≡ length ds → Holds u T (take i ds) → Holds u T ds
@@ -72,13 +72,13 @@ module _ (u : List Atom) (base : List Diff) (over : AreOver u base) (old mid new
 
   pub base-next : Taken u base (take i base) old mid → Grown u mid new d (Base i) → Taken u base (take (i + 1) base) old new
   base-next t g = record {
-      fine = g.fine;
-      holds = Holds-more u (bounds new) base i d lt (Holds-lower u (bounds mid) (bounds new) (take i base) g.lower (over-take u base i over) t.holds) g.holds is;
-      onward = λ rules. record {
-        lower = lower-trans (length u) (bounds old) (bounds mid) (bounds new) (t.onward rules).lower g.lower;
-        kept = λ k. kept-next rules ((t.onward rules).kept k) g
-      }
-    }
+    fine = g.fine;
+    holds = Holds-more u (bounds new) base i d lt (Holds-lower u (bounds mid) (bounds new) (take i base) g.lower (over-take u base i over) t.holds) g.holds is;
+    onward = λ rules. record {
+      lower = lower-trans (length u) (bounds old) (bounds mid) (bounds new) (t.onward rules).lower g.lower;
+      kept = λ k. kept-next rules ((t.onward rules).kept k) g;
+    };
+  }
 
   pub base-stop : Taken u base (take i base) old mid → Clashes u mid new d (Base i) → (rules : List RuleInst) → Halted u base rules old new
   base-stop t c rules k =
@@ -105,16 +105,16 @@ module _ (u : List Atom) (rules : List RuleInst) (rule : ℕ) (r : RuleInst) (pl
         ds = q.ds ++ x.0;
         log = x.1;
         edges = x.2;
-        named = named-left q.ds x.0 r.premises places q.named
+        named = named-left q.ds x.0 r.premises places q.named;
       }
 
   pub applied-next : Applied u rules r places (take i rs) old mid → Grown u mid new d (Rule rule i places) → Applied u rules r places (take (i + 1) rs) old new
   applied-next a g = record {
-      fine = g.fine;
-      lower = lower-trans (length u) (bounds old) (bounds mid) (bounds new) a.lower g.lower;
-      holds = Holds-more u (bounds new) rs i d lt (Holds-lower u (bounds mid) (bounds new) (take i rs) g.lower (over-take u rs i over) a.holds) g.holds is;
-      ready = λ base q. ready-next base (a.ready base q) g
-    }
+    fine = g.fine;
+    lower = lower-trans (length u) (bounds old) (bounds mid) (bounds new) a.lower g.lower;
+    holds = Holds-more u (bounds new) rs i d lt (Holds-lower u (bounds mid) (bounds new) (take i rs) g.lower (over-take u rs i over) a.holds) g.holds is;
+    ready = λ base q. ready-next base (a.ready base q) g;
+  }
 
   pub applied-stop : Applied u rules r places (take i rs) old mid → Clashes u mid new d (Rule rule i places) → (base : List Diff) → Ready u base rules old r places → Refuted u base rules new.steps
   applied-stop a c base q =
@@ -144,17 +144,17 @@ module _ (u : List Atom) (rules : List RuleInst) (r : RuleInst) (places : List �
         ds = k.logged.0 ++ x.0;
         log = x.1;
         edges = rw table (edges-left u k.logged.0 x.0 old.table.edges.items k.logged.2);
-        named = x.2
+        named = x.2;
       }
 
   pub fire-forward : Applied u rules r places r.results mid new → Forward u rules old new
   fire-forward a = record {
-      fine = a.fine;
-      onward = λ base. record {
-        lower = rw table at a.lower;
-        kept = λ k. let q = a.ready base (ready-first base k) in record { sound = q.sound; logged = (q.ds, q.log, q.edges) }
-      }
-    }
+    fine = a.fine;
+    onward = λ base. record {
+      lower = rw table at a.lower;
+      kept = λ k. let q = a.ready base (ready-first base k) in record { sound = q.sound; logged = (q.ds, q.log, q.edges) };
+    };
+  }
 
   pub fire-stop : ((base : List Diff) → Ready u base rules mid r places → Refuted u base rules new.steps) → Stopped u rules old new
   fire-stop f base k = f base (ready-first base k)
@@ -164,12 +164,12 @@ forward-same u rules w f = record { fine = f; onward = λ base. record { lower =
 
 pub forward-trans : (u : List Atom) (rules : List RuleInst) (old mid new : Workings) → Forward u rules old mid → Forward u rules mid new → Forward u rules old new
 forward-trans u rules old mid new f g = record {
-    fine = g.fine;
-    onward = λ base. record {
-      lower = lower-trans (length u) (bounds old) (bounds mid) (bounds new) (f.onward base).lower (g.onward base).lower;
-      kept = λ k. (g.onward base).kept ((f.onward base).kept k)
-    }
-  }
+  fine = g.fine;
+  onward = λ base. record {
+    lower = lower-trans (length u) (bounds old) (bounds mid) (bounds new) (f.onward base).lower (g.onward base).lower;
+    kept = λ k. (g.onward base).kept ((f.onward base).kept k);
+  };
+}
 
 pub stopped-trans : (u : List Atom) (rules : List RuleInst) (old mid new : Workings) → Forward u rules old mid → Stopped u rules mid new → Stopped u rules old new
 stopped-trans u rules old mid new f s base k = s base ((f.onward base).kept k)

@@ -35,46 +35,46 @@ module _ (m : ℕ) (T : ℕ → ℕ → ℤ) (a b : ℕ) (c : ℤ) (U : ℕ → 
   itself-add x lx =
       let f : T x x ≡ pos 0 = t.itself x lx in
       elim (u.cases x x lx lx) [
-        inl e ↦ omega (arith, ints)
-      | inr p ↦
-          let g : T b a ≤ℤ (T b x +ℤ T x a) = t.below b x a lb lx la p.1 p.0 in
-          let r = range m T few t b x lb lx p.1 in
-          let s = range m T few t x a lx la p.0 in
-          let n : pos 0 ≤ℤ (T b a +ℤ c) = ok (omega (arith, ints)) in
-          absurd (omega (arith, ints))
+        | inl e ↦ omega (arith, ints)
+        | inr p ↦
+            let g : T b a ≤ℤ (T b x +ℤ T x a) = t.below b x a lb lx la p.1 p.0 in
+            let r = range m T few t b x lb lx p.1 in
+            let s = range m T few t x a lx la p.0 in
+            let n : pos 0 ≤ℤ (T b a +ℤ c) = ok (omega (arith, ints)) in
+            absurd (omega (arith, ints))
       ]
 
   below-add : (x z y : ℕ) → x < m → z < m → y < m → U x z <ℤ far → U z y <ℤ far → U x y ≤ℤ (U x z +ℤ U z y)
   below-add x z y lx lz ly h i =
       elim (u.cases x z lx lz) [
-        inl e ↦ elim (u.cases z y lz ly) [
-          inl f ↦
-            let g = t.below x z y lx lz ly (omega (arith, ints)) (omega (arith, ints)) in
-            let j = u.lower x y lx ly in
-            omega (arith, ints)
-        | inr q ↦
-            let xz : T x z <ℤ far = omega (arith, ints) in
-            let g = t.below x z a lx lz la xz q.0 in
-            let r = range m T few t x z lx lz xz in
-            let s = range m T few t z a lz la q.0 in
-            let j = u.through x y lx ly (omega (arith, ints)) q.1 in
-            omega (arith, ints)
+        | inl e ↦ elim (u.cases z y lz ly) [
+          | inl f ↦
+              let g = t.below x z y lx lz ly (omega (arith, ints)) (omega (arith, ints)) in
+              let j = u.lower x y lx ly in
+              omega (arith, ints)
+          | inr q ↦
+              let xz : T x z <ℤ far = omega (arith, ints) in
+              let g = t.below x z a lx lz la xz q.0 in
+              let r = range m T few t x z lx lz xz in
+              let s = range m T few t z a lz la q.0 in
+              let j = u.through x y lx ly (omega (arith, ints)) q.1 in
+              omega (arith, ints)
         ]
-      | inr p ↦ elim (u.cases z y lz ly) [
-          inl f ↦
-            let zy : T z y <ℤ far = omega (arith, ints) in
-            let g = t.below b z y lb lz ly p.1 zy in
-            let r = range m T few t b z lb lz p.1 in
-            let s = range m T few t z y lz ly zy in
-            let j = u.through x y lx ly p.0 (omega (arith, ints)) in
-            omega (arith, ints)
-        | inr q ↦
-            let g = t.below b z a lb lz la p.1 q.0 in
-            let r = range m T few t b z lb lz p.1 in
-            let s = range m T few t z a lz la q.0 in
-            let n : pos 0 ≤ℤ (T b a +ℤ c) = ok (omega (arith, ints)) in
-            let j = u.through x y lx ly p.0 q.1 in
-            omega (arith, ints)
+        | inr p ↦ elim (u.cases z y lz ly) [
+          | inl f ↦
+              let zy : T z y <ℤ far = omega (arith, ints) in
+              let g = t.below b z y lb lz ly p.1 zy in
+              let r = range m T few t b z lb lz p.1 in
+              let s = range m T few t z y lz ly zy in
+              let j = u.through x y lx ly p.0 (omega (arith, ints)) in
+              omega (arith, ints)
+          | inr q ↦
+              let g = t.below b z a lb lz la p.1 q.0 in
+              let r = range m T few t b z lb lz p.1 in
+              let s = range m T few t z a lz la q.0 in
+              let n : pos 0 ≤ℤ (T b a +ℤ c) = ok (omega (arith, ints)) in
+              let j = u.through x y lx ly p.0 q.1 in
+              omega (arith, ints)
         ]
       ]
 
@@ -128,7 +128,7 @@ module _ (m : ℕ) (T : ℕ → ℕ → ℤ) (a b : ℕ) (c : ℤ) (U : ℕ → 
 
   high-add : (x y : ℕ) → x < m → y < m → U x y <ℤ far → (U x y +ℤ pos 8388608) ≤ℤ pos (8388608 * count (on_way U x y) m)
   high-add x y lx ly f = elim (u.cases x y lx ly) [
-      inl e ↦
+    | inl e ↦
         let w = ways-kept x y lx ly e in
         let h = t.high x y lx ly (omega (arith, ints)) in
         omega (arith, ints)
@@ -138,11 +138,11 @@ module _ (m : ℕ) (T : ℕ → ℕ → ℤ) (a b : ℕ) (c : ℤ) (U : ℕ → 
         let i = t.high b y lb ly p.1 in
         let e = p.2 in
         omega (arith, ints)
-    ]
+  ]
 
   low-add : (x y : ℕ) → x < m → y < m → U x y <ℤ far → pos 8388608 ≤ℤ (U x y +ℤ pos (8388608 * count (on_way U x y) m))
   low-add x y lx ly f = elim (u.cases x y lx ly) [
-      inl e ↦
+    | inl e ↦
         let w = ways-kept x y lx ly e in
         let h = t.low x y lx ly (omega (arith, ints)) in
         omega (arith, ints)
@@ -152,7 +152,7 @@ module _ (m : ℕ) (T : ℕ → ℕ → ℤ) (a b : ℕ) (c : ℤ) (U : ℕ → 
         let i = t.low b y lb ly p.1 in
         let e = p.2 in
         omega (arith, ints)
-    ]
+  ]
 
   pub Sums-add : Sums m U
   Sums-add = record { itself = itself-add; below = below-add; high = high-add; low = low-add }

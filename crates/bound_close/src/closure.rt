@@ -31,7 +31,6 @@ impl Model for Closure {
     ghost use Rattle.std.specs.Prelude.{◌≡◌, false};
     ghost use Rattle.bound_close.specs.Closure.{Found};
     ghost use Rattle.bound_close.specs.Workings.{IsFine};
-
     ghost use Rattle.loop_core.specs.contracts.nest.Atom as an_atom;
     ghost use Rattle.index_props.specs.contracts.certificate.Step as a_step;
     ghost use Rattle.std.specs.Coded.{codes};
@@ -64,7 +63,11 @@ pub fn close(
     let universe = copy_universe(alloc, u)?;
     let mut workings = Workings::new(alloc, universe.atoms.as_slice())?;
     let fine = workings.run(alloc, universe.atoms.as_slice(), base, rules)?;
-    Ok(Closure { universe, workings, refuted: !fine })
+    Ok(Closure {
+        universe,
+        workings,
+        refuted: !fine,
+    })
 }
 
 impl Closure {
@@ -129,18 +132,12 @@ impl Closure {
 
     /// A certificate of `a - b <= c`, where the closure isn't empty: `Some` exactly where it is
     /// derivable. It has a step for each that the closure keeps, and those of the bound's way.
-    pub fn proof(
-        &self,
-        alloc: Global,
-        a: &Atom,
-        b: &Atom,
-        c: i64,
-    ) -> Result<Option<Cert>, Memory>
+    pub fn proof(&self, alloc: Global, a: &Atom, b: &Atom, c: i64) -> Result<Option<Cert>, Memory>
         ensures { IfOk result (λ found. (base : List Diff) (rules : List RuleInst) → IsClosure self.now base rules
             → MatchOption found
-                ((IsContradictory self.now.atoms base rules → ⊥) → Derivable self.now.atoms base rules a.now b.now c → ⊥)
-                (λ cert. Derivable self.now.atoms base rules a.now b.now c
-                    × Shows self.now.atoms base rules cert.steps a.now b.now c)) }
+            ((IsContradictory self.now.atoms base rules → ⊥) → Derivable self.now.atoms base rules a.now b.now c → ⊥)
+            (λ cert. Derivable self.now.atoms base rules a.now b.now c
+            × Shows self.now.atoms base rules cert.steps a.now b.now c)) }
     {
         let Some(between) = self.between(a, b) else {
             return Ok(None);
@@ -150,7 +147,14 @@ impl Closure {
         }
         let atoms = self.universe.atoms.as_slice();
         let mut steps = copy_steps(alloc, self.workings.steps.as_slice())?;
-        let way = emit(alloc, atoms, &self.workings.table, between.x, between.y, &mut steps)?;
+        let way = emit(
+            alloc,
+            atoms,
+            &self.workings.table,
+            between.x,
+            between.y,
+            &mut steps,
+        )?;
         push_weaken(way, c, &mut steps)?;
         Ok(Some(Cert { steps }))
     }
@@ -159,9 +163,9 @@ impl Closure {
     pub fn refutation(&self, alloc: Global) -> Result<Option<Cert>, Memory>
         ensures { IfOk result (λ found. (base : List Diff) (rules : List RuleInst) → IsClosure self.now base rules
             → MatchOption found
-                (IsContradictory self.now.atoms base rules → ⊥)
-                (λ cert. IsContradictory self.now.atoms base rules
-                    × ShowsContradiction self.now.atoms base rules cert.steps)) }
+            (IsContradictory self.now.atoms base rules → ⊥)
+            (λ cert. IsContradictory self.now.atoms base rules
+            × ShowsContradiction self.now.atoms base rules cert.steps)) }
     {
         if !self.refuted {
             return Ok(None);

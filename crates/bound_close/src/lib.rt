@@ -14,6 +14,8 @@ pub mod row;
 pub mod run;
 pub mod table;
 pub mod taking;
+#[cfg(test)]
+mod tests;
 pub mod waiting;
 pub mod way;
 pub mod workings;

@@ -38,7 +38,10 @@ impl Workings {
         let premises = instance.premises.as_slice();
         let premise = self.first_open(atoms, premises, waiting.premise);
         if premise < premises.len() {
-            still.push(Waiting { rule: waiting.rule, premise })?;
+            still.push(Waiting {
+                rule: waiting.rule,
+                premise,
+            })?;
             return Ok(true);
         }
         self.fire(alloc, atoms, rules, waiting.rule)

@@ -125,14 +125,7 @@ fn improved(old: i64, from: i64, start: i64) -> i64
     }
 }
 
-fn improve_from(
-    cells: &mut [i64],
-    marks: &mut [usize],
-    a: usize,
-    from: &[i64],
-    c: i64,
-    edge: usize,
-)
+fn improve_from(cells: &mut [i64], marks: &mut [usize], a: usize, from: &[i64], c: i64, edge: usize)
     requires marks { length marks.old ≡ length from.now }
     requires same { length cells.old ≡ length from.now }
     requires few { Within 8388608 c }

@@ -83,7 +83,15 @@ impl Table {
         let from = self.rows[edge.b].copy(alloc)?;
         let number = self.edges.len();
         self.edges.push(edge)?;
-        tighten(&mut self.rows, &mut self.marks, &from, edge.a, edge.b, edge.c, number);
+        tighten(
+            &mut self.rows,
+            &mut self.marks,
+            &from,
+            edge.a,
+            edge.b,
+            edge.c,
+            number,
+        );
         Ok(())
     }
 }
@@ -116,7 +124,12 @@ fn new_edges(alloc: Global) -> Result<Vec<Edge>, Memory>
     ensures { IfOk result (λ v. v.items ≡ no_edge ∷ []) }
 {
     let mut edges = Vec::new(alloc);
-    edges.push(Edge { a: 0, b: 0, c: 0, step: 0 })?;
+    edges.push(Edge {
+        a: 0,
+        b: 0,
+        c: 0,
+        step: 0,
+    })?;
     Ok(edges)
 }
 

@@ -18,12 +18,7 @@ impl Workings {
     ghost use Rattle.bound_close.specs.Workings.{bounds, IsFine, Halted, Refuted};
 
     /// Takes in a base; false where it is contradictory, and then the last step gives `a - a <= -1`.
-    pub fn add_base(
-        &mut self,
-        alloc: Global,
-        atoms: &[Atom],
-        base: &[Diff],
-    ) -> Result<bool, Memory>
+    pub fn add_base(&mut self, alloc: Global, atoms: &[Atom], base: &[Diff]) -> Result<bool, Memory>
         requires fine { IsFine atoms.now self.old }
         requires over { AreOver atoms.now base.now }
         ensures taken { IfOk result (λ fine. fine ≡ true → Taken atoms.now base.now base.now self.old self.new) }

@@ -69,7 +69,12 @@ impl Workings {
     {
         let (a, b) = (place(atoms, &diff.a), place(atoms, &diff.b));
         let at = push_step(step, &mut self.steps)?;
-        let edge = Edge { a, b, c: diff.c, step: at };
+        let edge = Edge {
+            a,
+            b,
+            c: diff.c,
+            step: at,
+        };
         if self.table.refuses(a, b, diff.c) {
             refute(alloc, atoms, &self.table, &edge, &mut self.steps)?;
             return Ok(false);
@@ -116,6 +121,11 @@ impl Workings {
             return Ok(true);
         }
         let places = Items::from_slice(alloc, places)?;
-        self.add(alloc, atoms, outcome, Step::Rule(rule as u64, at as u64, places))
+        self.add(
+            alloc,
+            atoms,
+            outcome,
+            Step::Rule(rule as u64, at as u64, places),
+        )
     }
 }

@@ -20,5 +20,5 @@ returns-clause-closure c =
     let halted : c.in_ok-fine.fine ≡ false → Kept c.in_ok-universe.universe.atoms c.args.base.now c.args.rules.now c.in_ok-workings.workings → Refuted c.in_ok-universe.universe.atoms c.args.base.now c.args.rules.now c.run.new.self.steps = rw c.as_slice-2.ensures at c.in_ok-fine.ensures.halted in
     record {
       found = λ e. closed (from_not_false c.in_ok-fine.fine e) kept;
-      refuted = λ e. halted (from_not_true c.in_ok-fine.fine e) kept
+      refuted = λ e. halted (from_not_true c.in_ok-fine.fine e) kept;
     }

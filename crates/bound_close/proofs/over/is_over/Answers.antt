@@ -9,5 +9,5 @@ returns c = λ h.
     record {
       left = c.lists.ensures c.if-not-lists.false;
       right = c.lists-2.ensures c.if-not-lists-2.false;
-      small = rw (to_z-of_z w64 c.args.diff.now.c fc) at (c.is_small.ensures h)
+      small = rw (to_z-of_z w64 c.args.diff.now.c fc) at (c.is_small.ensures h);
     }

@@ -7,5 +7,5 @@ loop-rule-preserved c =
     let list : c.push.new.self.items ≡ c.loop-rule.waiting.items ++ record { rule = c.loop-rule.rule; premise = 0 } ∷ [] = search rules in
     record {
       each = below-each c.loop-rule.waiting.items c.push.new.self.items c.loop-rule.rule list c.loop-rule.invariant.each;
-      below = below-all c.loop-rule.waiting.items c.push.new.self.items c.loop-rule.rule list c.loop-rule.invariant.below
+      below = below-all c.loop-rule.waiting.items c.push.new.self.items c.loop-rule.rule list c.loop-rule.invariant.below;
     }

@@ -20,5 +20,5 @@ loop-y-preserved c =
       done = set-done c.loop-y.cells (λ k. step (to_z w64 (of_z w64 c.args.start)) (cell c.args.from.now k) (cell c.args.cells.now k)) c.loop-y.y (to_z w64 (of_z w64 c.improved-new.result)) (omega arith) c.loop-y.invariant.done new;
       left = set-left c.loop-y.cells c.args.cells.now c.loop-y.y (to_z w64 (of_z w64 c.improved-new.result)) c.loop-y.invariant.left;
       marks_done = put-done c.loop-y.marks c.args.marks.now c.loop-y.y c.marked.result 0 (λ k v. v ≡ mark_of (cell c.args.cells.now k) (step (to_z w64 (of_z w64 c.args.start)) (cell c.args.from.now k) (cell c.args.cells.now k)) (slice_index_or c.args.marks.now k 0) c.args.edge) (omega arith) c.loop-y.invariant.marks_done (k ∙ mark-same _ _ _ _ _ _ c.args.edge (to_z-of_z w64 (slice_index_or c.loop-y.cells c.loop-y.y (pos 0)) f2 ∙ left) new (c.loop-y.invariant.marks_left c.loop-y.y (omega arith)));
-      marks_left = put-left c.loop-y.marks c.args.marks.now c.loop-y.y c.marked.result 0 c.loop-y.invariant.marks_left
+      marks_left = put-left c.loop-y.marks c.args.marks.now c.loop-y.y c.marked.result 0 c.loop-y.invariant.marks_left;
     }

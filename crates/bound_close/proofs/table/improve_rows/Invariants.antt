@@ -11,5 +11,5 @@ invariant-loop-x l = record {
   marks_long : length l.marks ≡ length l.initial.rows;
   marks_wide : (k : ℕ) → k < length l.initial.rows → length (slice_index_or l.marks k []) ≡ length l.from;
   marks_done : (k : ℕ) → k < l.x → AreMarked (length l.from) l.edge (slice_index_or l.initial.rows k []) (slice_index_or l.rows k []) (slice_index_or l.initial.marks k []) (slice_index_or l.marks k []);
-  marks_left : (k : ℕ) → l.x ≤ k → slice_index_or l.marks k [] ≡ slice_index_or l.initial.marks k []
+  marks_left : (k : ℕ) → l.x ≤ k → slice_index_or l.marks k [] ≡ slice_index_or l.initial.marks k [];
 }

@@ -11,5 +11,5 @@ returns c =
     let r = entry-range c.args.table.now.rows.items c.args.edge.now.b c.args.edge.now.a c.requires.traced.table c.requires.b c.requires.a c.requires.known in
     let low = c.requires.below in
     refuting c.args.atoms.now c.args.table.now.edges.items c.args.steps.now c.emit.new.steps c.push_sum.new.steps c.push_weaken.new.steps c.args.edge.now c.in_ok-back.back c.in_ok-sum.sum (entry c.args.table.now.rows.items c.args.edge.now.b c.args.edge.now.a)
-      c.in_ok-back.ensures c.in_ok-sum.ensures.steps c.in_ok-sum.ensures.number c.in_ok-push_weaken.ensures.steps (omega (arith, ints))
-      (let q = c.requires.few in fits-small (c.args.edge.now.c +ℤ entry c.args.table.now.rows.items c.args.edge.now.b c.args.edge.now.a) (omega (arith, ints)) (omega (arith, ints)))
+    c.in_ok-back.ensures c.in_ok-sum.ensures.steps c.in_ok-sum.ensures.number c.in_ok-push_weaken.ensures.steps (omega (arith, ints))
+    (let q = c.requires.few in fits-small (c.args.edge.now.c +ℤ entry c.args.table.now.rows.items c.args.edge.now.b c.args.edge.now.a) (omega (arith, ints)) (omega (arith, ints)))

@@ -31,4 +31,4 @@ returns c = λ base rules h.
     let way : Emitted k.atoms k.workings.table.edges.items k.workings.steps c.emit.new.steps c.in_ok-way.way (diff_at k.atoms (place_in k.atoms c.args.a.now) (place_in k.atoms c.args.b.now) (bounds k.workings (place_in k.atoms c.args.a.now) (place_in k.atoms c.args.b.now))) = rw (c.as_slice-atoms.ensures, c.in_ok-steps.ensures, c.as_slice.ensures, q.x, q.y) at c.in_ok-way.ensures in
     let last : c.push_weaken.new.steps ≡ c.emit.new.steps ++ Weaken c.in_ok-way.way c.args.c ∷ [] = rw (to_z-of_z w64 c.args.c fc) at c.in_ok-push_weaken.ensures.steps in
     subst (λ (k : Found). Derivable k.atoms base rules c.args.a.now c.args.b.now c.args.c × Shows k.atoms base rules c.push_weaken.new.steps c.args.a.now c.args.b.now c.args.c) (sym v)
-      (certified k base rules g c.args.a.now c.args.b.now c.in-Some.between c.args.c c.emit.new.steps c.push_weaken.new.steps c.in_ok-way.way q low way last)
+    (certified k base rules g c.args.a.now c.args.b.now c.in-Some.between c.args.c c.emit.new.steps c.push_weaken.new.steps c.in_ok-way.way q low way last)

@@ -26,4 +26,4 @@ returns-clause-traced c =
     let number : c.len-number.result ≡ length c.args.self.now.edges.items = search rules in
     let marked : AllMarked (length c.args.self.now.rows.items) (length c.args.self.now.edges.items) c.args.self.now.rows.items c.tighten.new.rows c.args.self.now.marks.items c.tighten.new.marks = rw (c.deref_mut.ensures.value, c.deref_mut-2.ensures.value, number) at c.tighten.ensures.marked in
     rw (rows, marks, edges)
-      (IsTraced-add c.args.self.now.rows.items c.tighten.new.rows c.args.self.now.marks.items c.tighten.new.marks c.args.self.now.edges.items c.args.edge c.requires.traced c.requires.a c.requires.b c.requires.few c.requires.fits long c.tighten.ensures.table adds shape marked)
+    (IsTraced-add c.args.self.now.rows.items c.tighten.new.rows c.args.self.now.marks.items c.tighten.new.marks c.args.self.now.edges.items c.args.edge c.requires.traced c.requires.a c.requires.b c.requires.few c.requires.fits long c.tighten.ensures.table adds shape marked)

@@ -41,7 +41,7 @@ returns-clause-forward c =
     let mid : Workings = record { table = c.args.self.now.table; steps = c.certify.new.steps } in
     let n : Naming c.args.atoms.now c.args.self.now.table.edges.items c.args.self.now.steps c.certify.new.steps c.index-rules-rule.result.premises c.as_slice.result.now = rw (c.as_slice-premises.ensures, ← c.as_slice.ensures) at c.in_ok-places.ensures in
     if-ok-map c.add_results.result (λ fine. fine ≡ true → (r : RuleInst) → slice_get c.args.rules.now c.args.rule ≡ Some r → Applied c.args.atoms.now c.args.rules.now r c.as_slice.result.now r.results mid c.add_results.new.self) (λ fine. fine ≡ true → Forward c.args.atoms.now c.args.rules.now c.args.self.now c.add_results.new.self) c.add_results.ensures.applied
-      (λ fine f t. fire-forward c.args.atoms.now c.args.rules.now c.index-rules-rule.result c.as_slice.result.now c.args.self.now mid c.add_results.new.self o (c.requires.holds c.index-rules-rule.result at) refl n (f t c.index-rules-rule.result at))
+    (λ fine f t. fire-forward c.args.atoms.now c.args.rules.now c.index-rules-rule.result c.as_slice.result.now c.args.self.now mid c.add_results.new.self o (c.requires.holds c.index-rules-rule.result at) refl n (f t c.index-rules-rule.result at))
 
 pub returns-clause-stopped : goal.returns-clause-stopped
 returns-clause-stopped c =
@@ -50,4 +50,4 @@ returns-clause-stopped c =
     let mid : Workings = record { table = c.args.self.now.table; steps = c.certify.new.steps } in
     let n : Naming c.args.atoms.now c.args.self.now.table.edges.items c.args.self.now.steps c.certify.new.steps c.index-rules-rule.result.premises c.as_slice.result.now = rw (c.as_slice-premises.ensures, ← c.as_slice.ensures) at c.in_ok-places.ensures in
     if-ok-map c.add_results.result (λ fine. fine ≡ false → (r : RuleInst) → slice_get c.args.rules.now c.args.rule ≡ Some r → (base : List Diff) → Ready c.args.atoms.now base c.args.rules.now mid r c.as_slice.result.now → Refuted c.args.atoms.now base c.args.rules.now c.add_results.new.self.steps) (λ fine. fine ≡ false → Stopped c.args.atoms.now c.args.rules.now c.args.self.now c.add_results.new.self) c.add_results.ensures.refuted
-      (λ fine f t. fire-stop c.args.atoms.now c.args.rules.now c.index-rules-rule.result c.as_slice.result.now c.args.self.now mid c.add_results.new.self o (c.requires.holds c.index-rules-rule.result at) refl n (f t c.index-rules-rule.result at))
+    (λ fine f t. fire-stop c.args.atoms.now c.args.rules.now c.index-rules-rule.result c.as_slice.result.now c.args.self.now mid c.add_results.new.self o (c.requires.holds c.index-rules-rule.result at) refl n (f t c.index-rules-rule.result at))

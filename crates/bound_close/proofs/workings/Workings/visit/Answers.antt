@@ -43,4 +43,4 @@ fire-requires-clause-holds c = λ r at.
 pub returns-clause-visited : goal.returns-clause-visited
 returns-clause-visited c =
     if-ok-map c.fire.result (λ fine. fine ≡ true → ResultsHold c.args.atoms.now c.args.rules.now c.fire.new.self c.args.waiting.rule) (λ fine. fine ≡ true → Stays c.args.atoms.now c.args.rules.now c.args.self.now c.fire.new.self c.args.waiting.rule c.args.still.now.items c.args.still.now.items ⊎ Fires c.args.atoms.now c.args.rules.now c.fire.new.self c.args.waiting.rule c.args.still.now.items c.args.still.now.items) c.fire.ensures.holds
-      (λ fine f t. inr (record { holds = f t; list = refl }))
+    (λ fine f t. inr (record { holds = f t; list = refl }))
