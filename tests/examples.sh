@@ -2,9 +2,9 @@
 # Runs the commands of README.md and of the pages of examples/ and compares what they print.
 #
 # usage: tests/examples.sh [PROGRAM]
-# On those pages a fenced block of one line that begins with `./wave ` is a command for the top folder,
-# and the fenced block behind it is its standard output, byte for byte; the status has to be 0 and
-# standard error empty. Each loop file of examples/ is canonical text, so `show` has to print its bytes.
+# On those pages a fenced block of one line that begins with `./wave ` and sends nothing into a file is a
+# command for the top folder, and the fenced block behind it is its standard output, byte for byte; the
+# status has to be 0 and standard error empty. Each loop file of examples/ is canonical text, so `show` has to print its bytes.
 # The last line is `N passed, M failed`.
 set -u
 
@@ -49,7 +49,7 @@ commands_of() {
         /^```/ && inside { inside = 0; wanted = 0; next }
         /^```/ { inside = 1; first = 1; wanted = told; told = 0; if (wanted) printf "" > (at count ".wanted"); next }
         inside && wanted { print > (at count ".wanted"); next }
-        inside && first && /^\.\/wave / { count++; told = 1; sub(/^\.\/wave /, ""); print > (at count ".words") }
+        inside && first && /^\.\/wave [^>]*$/ { count++; told = 1; sub(/^\.\/wave /, ""); print > (at count ".words") }
         inside { first = 0 }
     ' "$1"
 }
