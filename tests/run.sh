@@ -5,6 +5,7 @@
 #   status   the wanted status
 #   stdout   the wanted standard output, byte for byte
 #   stderr   the wanted standard error, byte for byte
+#   output   a file that standard output goes to instead, if there is one; stdout is then empty
 # The examples are those of examples.sh, counted with the cases. The last line is `N passed, M failed`.
 # A missing program is a failure of every case.
 set -u
@@ -31,7 +32,10 @@ run_case() {
     while IFS= read -r word; do
         set -- "$@" "$word"
     done <"$folder/words"
-    (cd "$scratch/at" && exec "$program" "$@") >"$scratch/stdout" 2>"$scratch/stderr" </dev/null
+    output=$scratch/stdout
+    : >"$output"
+    [ ! -f "$folder/output" ] || output=$(cat "$folder/output")
+    (cd "$scratch/at" && exec "$program" "$@") >"$output" 2>"$scratch/stderr" </dev/null
     echo $? >"$scratch/status"
 }
 
