@@ -6,7 +6,7 @@
 #
 # usage: bench/end_to_end.sh [PROGRAM [TURNS [SIDE [ROWS]]]]
 # PROGRAM is the built program (crates/wave/out/wave), TURNS at least 3 (3), SIDE 1 to 1024 (1000), ROWS 1 to
-# 1048576 (1048576). It needs a C compiler and Python 3.9, and 250 MB of room for files in TMPDIR. Ends with
+# 1048576 (1048576). It needs a C compiler and Python 3.9, and 260 MB of room for files in TMPDIR. Ends with
 # 1 where a program fails or the outputs differ.
 set -eu
 top=$(CDPATH='' cd -- "$(dirname -- "$0")/.." && pwd -P)
