@@ -1,11 +1,13 @@
 #!/bin/sh
-# Runs the black-box cases on the built program. A case is a folder of cases/ with
+# Runs the black-box cases on the built program, and then the examples. A case is a folder of cases/ with
 #   words    one word of the command line a line (none where it is empty)
 #   files/   the files that lie where the program runs, if there are any
 #   status   the wanted status
 #   stdout   the wanted standard output, byte for byte
 #   stderr   the wanted standard error, byte for byte
-# The last line is `N passed, M failed`. A missing program is a failure of every case.
+#   output   a file that standard output goes to instead, if there is one; stdout is then empty
+# The examples are those of examples.sh, counted with the cases. The last line is `N passed, M failed`.
+# A missing program is a failure of every case.
 set -u
 
 here=$(CDPATH='' cd -- "$(dirname -- "$0")" && pwd -P) || exit 1
@@ -30,7 +32,10 @@ run_case() {
     while IFS= read -r word; do
         set -- "$@" "$word"
     done <"$folder/words"
-    (cd "$scratch/at" && exec "$program" "$@") >"$scratch/stdout" 2>"$scratch/stderr" </dev/null
+    output=$scratch/stdout
+    : >"$output"
+    [ ! -f "$folder/output" ] || output=$(cat "$folder/output")
+    (cd "$scratch/at" && exec "$program" "$@") >"$output" 2>"$scratch/stderr" </dev/null
     echo $? >"$scratch/status"
 }
 
@@ -55,6 +60,17 @@ for folder in "$here"/cases/*/; do
         [ ! -f "$scratch/stderr" ] || sed 3q "$scratch/stderr"
     fi
 done
+
+sh "$here/examples.sh" "$program" >"$scratch/examples"
+sed '$d' "$scratch/examples"
+counts=$(sed -n '$s/^\([0-9]*\) passed, \([0-9]*\) failed$/\1 \2/p' "$scratch/examples")
+if [ -n "$counts" ]; then
+    passed=$((passed + ${counts% *}))
+    failed=$((failed + ${counts#* }))
+else
+    failed=$((failed + 1))
+    echo "examples: examples.sh came to no end"
+fi
 
 echo "$passed passed, $failed failed"
 [ "$failed" -eq 0 ] && [ "$passed" -gt 0 ]
