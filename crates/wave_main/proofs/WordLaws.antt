@@ -1,166 +1,151 @@
--- The words of a run, and the first wrong one.
-use Rattle.std.proofs.Common.{ℕ, zero, suc, ◌≡◌, ◌≢◌, ◌≤◌, ◌+◌, List, [], ◌∷◌, ◌++◌, length, take, slice_get, Some, None, option_map, refl, sym, ◌∙◌, ap, subst, arith}
-use Rattle.std.specs.Prelude.{codes, string_bytes, String}
-use Rattle.std.specs.declared.alloc.Global.{Global}
-use Rattle.std.proofs.lemmas.Fmt.{decimal_digit}
-use Rattle.std.proofs.lemmas.Option.{slice_get-map}
-use Rattle.wave_main.specs.Words.{texts, IsWorkers, IsRun, IsBeginning, IsUsageAt}
+-- Commands are told apart by their first words.
+use Rattle.std.proofs.Common.{ℕ, ◌≡◌, ◌≢◌, ◌⊎◌, inl, inr, ◌≤◌, Bool, true, false, ◌&&◌, ◌||◌, List, [], ◌∷◌, Option, Some, None, length, slice_get, refl, sym, ◌∙◌, ap, subst, arith}
+use Rattle.std.specs.Prelude.{codes, IsTrue}
+use Rattle.std.specs.List.{list_any}
+use Rattle.std.specs.Str.{bytes_eq}
+use Rattle.std.proofs.lemmas.Slice.Eq.{bytes_eq-Decides}
+use Rattle.wave_words.specs.declared.slot.Slot.{Slot}
+use Rattle.wave_words.specs.declared.slot.Slot.TheVariants as slots
+use Rattle.wave_words.specs.declared.form.Form.{Form}
+use Rattle.wave_words.specs.declared.form.Form.TheVariants as forms
+use Rattle.wave_words.specs.Forms.{fits, has_form, is_whole}
+use Rattle.wave_words.specs.Words.{IsCommand}
+use Rattle.wave_main.specs.Commands.{Begins, IsRun, IsShow, all_forms, unbuilt, quiet_unbuilt}
 
-run_head : (a : List ℕ) (rest : List (List ℕ)) → IsRun (a ∷ rest) → a ≡ codes "run"
-run_head a rest (loop_file, matrix, workers, files, count, fits, same) = cc
+abbrev first_word : Form → List ℕ
+first_word forms.Run = codes "run"
+first_word forms.DemoGrid = codes "demo"
+first_word forms.DemoLower = codes "demo"
+first_word forms.Plan = codes "plan"
+first_word forms.Replay = codes "replay"
+first_word forms.Check = codes "check"
+first_word forms.Explain = codes "explain"
+first_word forms.Show = codes "show"
 
-run_fourth : (a b c d : List ℕ) (rest : List (List ℕ)) → IsRun (a ∷ b ∷ c ∷ d ∷ rest) → (count : ℕ) × IsWorkers d count
-run_fourth a b c d rest (loop_file, matrix, workers, files, count, fits, same) =
-    let e : d ≡ workers = cc in (count, subst (λ w. IsWorkers w count) (sym e) fits)
+first_true : (a b : Bool) → (a && b) ≡ true → a ≡ true
+first_true true b p = refl
+first_true false b p = p
 
-not_zero : IsRun [] → ⊥
-not_zero (loop_file, matrix, workers, files, count, fits, same) = cc
+second_true : (a b : Bool) → (a && b) ≡ true → b ≡ true
+second_true true b p = p
+second_true false b p = absurd cc
 
-not_one : (a : List ℕ) → IsRun (a ∷ []) → ⊥
-not_one a (loop_file, matrix, workers, files, count, fits, same) = cc
+same_bytes : (a b : List ℕ) → bytes_eq a b ≡ true → a ≡ b
+same_bytes a b e = (bytes_eq-Decides a b).0 e
 
-not_two : (a b : List ℕ) → IsRun (a ∷ b ∷ []) → ⊥
-not_two a b (loop_file, matrix, workers, files, count, fits, same) = cc
+begins_with : (ws : List (List ℕ)) (f : Form) → has_form ws f ≡ true → Begins ws (first_word f)
+begins_with [] forms.Run e = absurd cc
+begins_with [] forms.DemoGrid e = absurd cc
+begins_with [] forms.DemoLower e = absurd cc
+begins_with [] forms.Plan e = absurd cc
+begins_with [] forms.Replay e = absurd cc
+begins_with [] forms.Check e = absurd cc
+begins_with [] forms.Explain e = absurd cc
+begins_with [] forms.Show e = absurd cc
+begins_with (w ∷ ws) forms.Run e = ap Some (same_bytes w (codes "run") (first_true _ _ e))
+begins_with (w ∷ ws) forms.DemoGrid e = ap Some (same_bytes w (codes "demo") (first_true _ _ e))
+begins_with (w ∷ ws) forms.DemoLower e = ap Some (same_bytes w (codes "demo") (first_true _ _ e))
+begins_with (w ∷ ws) forms.Plan e = ap Some (same_bytes w (codes "plan") (first_true _ _ e))
+begins_with (w ∷ ws) forms.Replay e = ap Some (same_bytes w (codes "replay") (first_true _ _ e))
+begins_with (w ∷ ws) forms.Check e = ap Some (same_bytes w (codes "check") (first_true _ _ e))
+begins_with (w ∷ ws) forms.Explain e = ap Some (same_bytes w (codes "explain") (first_true _ _ e))
+begins_with (w ∷ ws) forms.Show e = ap Some (same_bytes w (codes "show") (first_true _ _ e))
 
-not_three : (a b c : List ℕ) → IsRun (a ∷ b ∷ c ∷ []) → ⊥
-not_three a b c (loop_file, matrix, workers, files, count, fits, same) = cc
+pub run_begins : (ws : List (List ℕ)) → IsRun ws → Begins ws (codes "run")
+run_begins ws run = begins_with ws forms.Run run
 
-one_worker : IsWorkers (codes "1") 1
-one_worker = (omega arith, omega arith, sym (decimal_digit 1 (omega arith)))
+pub show_begins : (ws : List (List ℕ)) → IsShow ws → Begins ws (codes "show")
+show_begins ws show = begins_with ws forms.Show show
 
--- the shortest run with these files
-some_run : (loop_file matrix : List ℕ) → IsRun (codes "run" ∷ loop_file ∷ matrix ∷ codes "1" ∷ [])
-some_run loop_file matrix = (loop_file, matrix, codes "1", [], 1, one_worker, refl)
+pub run_not_show : (ws : List (List ℕ)) → IsRun ws → ¬ IsShow ws
+run_not_show ws run show = let a = run_begins ws run in let b = show_begins ws show in cc
 
-begins_none : IsBeginning IsRun []
-begins_none = (codes "run" ∷ [] ∷ [] ∷ codes "1" ∷ [], some_run [] [])
+by_or : (P : Type 0) (a b : Bool) → (a || b) ≡ true → (a ≡ true → P) → (b ≡ true → P) → P
+by_or P true b h f g = f refl
+by_or P false b h f g = g h
 
-begins_one : IsBeginning IsRun (codes "run" ∷ [])
-begins_one = ([] ∷ [] ∷ codes "1" ∷ [], some_run [] [])
+other_than : (ws : List (List ℕ)) (first : List ℕ) (f : Form) → first_word f ≢ first → has_form ws f ≡ true → ¬ Begins ws first
+other_than ws first f differs e begins =
+    let own : Some (first_word f) ≡ Some first = sym (begins_with ws f e) ∙ begins in differs cc
 
-begins_two : (b : List ℕ) → IsBeginning IsRun (codes "run" ∷ b ∷ [])
-begins_two b = ([] ∷ codes "1" ∷ [], some_run b [])
+-- what isn't built begins with another word
+unbuilt_other : (ws : List (List ℕ)) (first : List ℕ) → codes "demo" ≢ first → codes "plan" ≢ first → codes "replay" ≢ first → codes "check" ≢ first → codes "explain" ≢ first
+    → IsCommand unbuilt ws → ¬ Begins ws first
+unbuilt_other ws first a b c d e command begins =
+    by_or ⊥ (has_form ws forms.DemoGrid) _ command (λ h. other_than ws first forms.DemoGrid a h begins) (λ command.
+    by_or ⊥ (has_form ws forms.DemoLower) _ command (λ h. other_than ws first forms.DemoLower a h begins) (λ command.
+    by_or ⊥ (has_form ws forms.Plan) _ command (λ h. other_than ws first forms.Plan b h begins) (λ command.
+    by_or ⊥ (has_form ws forms.Replay) _ command (λ h. other_than ws first forms.Replay c h begins) (λ command.
+    by_or ⊥ (has_form ws forms.Check) _ command (λ h. other_than ws first forms.Check d h begins) (λ command.
+    by_or ⊥ (has_form ws forms.Explain) false command (λ h. other_than ws first forms.Explain e h begins) (λ h. absurd cc))))))
 
-begins_three : (b c : List ℕ) → IsBeginning IsRun (codes "run" ∷ b ∷ c ∷ [])
-begins_three b c = (codes "1" ∷ [], some_run b c)
+abbrev head : List ℕ → ℕ
+head [] = 0
+head (b ∷ bs) = b
 
-empty_usage : IsUsageAt IsRun [] 0
-empty_usage = record { refused = not_zero; within = omega arith; begins = begins_none; longest = λ k below begun. below }
+pub unbuilt_not_run : (ws : List (List ℕ)) → IsCommand unbuilt ws → ¬ IsRun ws
+unbuilt_not_run ws command run = unbuilt_other ws (codes "run") (λ e. cc) (λ e. cc) (λ e. cc) (λ e. cc) (λ e. cc) command (run_begins ws run)
 
-other_longest : (a : List ℕ) (rest : List (List ℕ)) → a ≢ codes "run" → (k : ℕ) → IsBeginning IsRun (take k (a ∷ rest)) → k ≤ 0
-other_longest a rest other zero begun = omega arith
-other_longest a rest other (suc k) (more, run) = absurd (other (run_head a (take k rest ++ more) run))
+pub unbuilt_not_show : (ws : List (List ℕ)) → IsCommand unbuilt ws → ¬ IsShow ws
+unbuilt_not_show ws command show =
+    unbuilt_other ws (codes "show") (λ e. omega (arith, ap head e)) (λ e. omega (arith, ap head e)) (λ e. omega (arith, ap head e)) (λ e. omega (arith, ap head e)) (λ e. omega (arith, ap head e)) command (show_begins ws show)
 
-other_usage : (a : List ℕ) (rest : List (List ℕ)) → a ≢ codes "run" → IsUsageAt IsRun (a ∷ rest) 0
-other_usage a rest other = record {
-  refused = λ run. other (run_head a rest run);
-  within = omega arith;
-  begins = begins_none;
-  longest = λ k below begun. other_longest a rest other k begun;
-}
+left_true : (a b : Bool) → a ≡ true → (a || b) ≡ true
+left_true true b p = refl
+left_true false b p = absurd cc
 
-short_usage : (rest : List (List ℕ)) → length rest ≤ 2 → IsUsageAt IsRun (codes "run" ∷ rest) (length rest + 1)
-short_usage [] few = record { refused = not_one _; within = omega arith; begins = begins_one; longest = λ k below begun. below }
-short_usage (b ∷ []) few = record { refused = not_two _ b; within = omega arith; begins = begins_two b; longest = λ k below begun. below }
-short_usage (b ∷ c ∷ []) few = record { refused = not_three _ b c; within = omega arith; begins = begins_three b c; longest = λ k below begun. below }
-short_usage (b ∷ c ∷ d ∷ rest) few = absurd (omega (arith, few))
+right_true : (a b : Bool) → b ≡ true → (a || b) ≡ true
+right_true true b p = refl
+right_true false b p = p
 
-wrong_longest : (b c d : List ℕ) (rest : List (List ℕ)) → ((count : ℕ) → ¬ IsWorkers d count)
-    → (k : ℕ) → IsBeginning IsRun (take k (codes "run" ∷ b ∷ c ∷ d ∷ rest)) → k ≤ 3
-wrong_longest b c d rest wrong zero begun = omega arith
-wrong_longest b c d rest wrong (suc zero) begun = omega arith
-wrong_longest b c d rest wrong (suc (suc zero)) begun = omega arith
-wrong_longest b c d rest wrong (suc (suc (suc zero))) begun = omega arith
-wrong_longest b c d rest wrong (suc (suc (suc (suc k)))) (more, run) =
-    let fits = run_fourth (codes "run") b c d (take k rest ++ more) run in absurd (wrong fits.0 fits.1)
+pub run_is_command : (ws : List (List ℕ)) → IsRun ws → IsCommand all_forms ws
+run_is_command ws run = left_true (has_form ws forms.Run) _ run
 
-wrong_usage : (b c d : List ℕ) (rest : List (List ℕ)) → ((count : ℕ) → ¬ IsWorkers d count)
-    → IsUsageAt IsRun (codes "run" ∷ b ∷ c ∷ d ∷ rest) 3
-wrong_usage b c d rest wrong = record {
-  refused = λ run. let fits = run_fourth (codes "run") b c d rest run in wrong fits.0 fits.1;
-  within = omega arith;
-  begins = begins_three b c;
-  longest = λ k below begun. wrong_longest b c d rest wrong k begun;
-}
+pub show_is_command : (ws : List (List ℕ)) → IsShow ws → IsCommand all_forms ws
+show_is_command ws show =
+    right_true (has_form ws forms.Run) _ (right_true (has_form ws forms.DemoGrid) _ (right_true (has_form ws forms.DemoLower) _ (right_true (has_form ws forms.Plan) _ (right_true (has_form ws forms.Replay) _ (right_true (has_form ws forms.Check) _ (right_true (has_form ws forms.Explain) _ (left_true (has_form ws forms.Show) false show)))))))
 
--- by what stands at places 0 and 3
-length-texts : (xs : List (String Global)) → length (texts xs) ≡ length xs
-length-texts [] = refl
-length-texts (x ∷ xs) = ap suc (length-texts xs)
+unbuilt_more : (a b c d e f s : Bool) → (a || (b || (c || (d || (e || (f || false)))))) ≡ true → (a || (b || (c || (d || (e || (f || (s || false))))))) ≡ true
+unbuilt_more true b c d e f s h = refl
+unbuilt_more false true c d e f s h = refl
+unbuilt_more false false true d e f s h = refl
+unbuilt_more false false false true e f s h = refl
+unbuilt_more false false false false true f s h = refl
+unbuilt_more false false false false false true s h = refl
+unbuilt_more false false false false false false s h = absurd cc
 
-pub none_first : (ws : List (List ℕ)) → slice_get ws 0 ≡ None → IsUsageAt IsRun ws 0
-none_first [] gone = empty_usage
-none_first (a ∷ rest) gone = absurd (let h : Some a ≡ None = gone in cc)
+pub unbuilt_is_command : (ws : List (List ℕ)) → IsCommand unbuilt ws → IsCommand all_forms ws
+unbuilt_is_command ws command = right_true (has_form ws forms.Run) _ (unbuilt_more (has_form ws forms.DemoGrid) (has_form ws forms.DemoLower) (has_form ws forms.Plan) (has_form ws forms.Replay) (has_form ws forms.Check) (has_form ws forms.Explain) (has_form ws forms.Show) command)
 
-pub other_first : (ws : List (List ℕ)) (w : List ℕ) → slice_get ws 0 ≡ Some w → w ≢ codes "run" → IsUsageAt IsRun ws 0
-other_first [] w found other = empty_usage
-other_first (a ∷ rest) w found other =
-    let e : Some a ≡ Some w = found in
-    let same : a ≡ w = cc in
-    other_usage a rest (λ it. other (sym same ∙ it))
+others_left : (r a b c d e f s : Bool) → (r || (a || (b || (c || (d || (e || (f || (s || false)))))))) ≡ true → r ≡ false → s ≡ false → (a || (b || (c || (d || (e || (f || false)))))) ≡ true
+others_left true a b c d e f s h x y = absurd cc
+others_left false true b c d e f s h x y = refl
+others_left false false true c d e f s h x y = refl
+others_left false false false true d e f s h x y = refl
+others_left false false false false true e f s h x y = refl
+others_left false false false false false true f s h x y = refl
+others_left false false false false false false true s h x y = refl
+others_left false false false false false false false true h x y = absurd cc
+others_left false false false false false false false false h x y = absurd cc
 
-few_after : (rest : List (List ℕ)) → slice_get rest 2 ≡ None → length rest ≤ 2
-few_after [] gone = omega arith
-few_after (b ∷ []) gone = omega arith
-few_after (b ∷ c ∷ []) gone = omega arith
-few_after (b ∷ c ∷ d ∷ rest) gone = absurd (let h : Some d ≡ None = gone in cc)
+-- a command that is neither `run` nor `show` isn't built
+pub others_unbuilt : (ws : List (List ℕ)) → IsCommand all_forms ws → has_form ws forms.Run ≡ false → has_form ws forms.Show ≡ false → IsCommand unbuilt ws
+others_unbuilt ws command not_run not_show = others_left (has_form ws forms.Run) (has_form ws forms.DemoGrid) (has_form ws forms.DemoLower) (has_form ws forms.Plan) (has_form ws forms.Replay) (has_form ws forms.Check) (has_form ws forms.Explain) (has_form ws forms.Show) command not_run not_show
 
-short_by : (a : List ℕ) (rest : List (List ℕ)) → a ≡ codes "run" → length rest ≤ 2 → IsUsageAt IsRun (a ∷ rest) (suc (length rest))
-short_by a rest right few =
-    let P : List ℕ → Type 0 = λ x. IsUsageAt IsRun (x ∷ rest) (suc (length rest)) in
-    subst P (sym right) (let Q : ℕ → Type 0 = λ n. IsUsageAt IsRun (codes "run" ∷ rest) n in subst Q (omega arith) (short_usage rest few))
+-- the number of words
+pub show_length : (ws : List (List ℕ)) → IsShow ws → length ws ≡ 2
+show_length [] show = absurd cc
+show_length (a ∷ []) show = absurd (let e = second_true (fits slots.Show a) false show in cc)
+show_length (a ∷ b ∷ []) show = refl
+show_length (a ∷ b ∷ c ∷ ws) show = absurd (let e = second_true (fits slots.Show a) false show in cc)
 
-pub too_short : (ws : List (List ℕ)) (w : List ℕ) → slice_get ws 0 ≡ Some w → w ≡ codes "run" → slice_get ws 3 ≡ None → IsUsageAt IsRun ws (length ws)
-too_short [] w found right gone = empty_usage
-too_short (a ∷ rest) w found right gone =
-    let e : Some a ≡ Some w = found in
-    let same : a ≡ w = cc in
-    short_by a rest (same ∙ right) (few_after rest gone)
+pub run_length : (ws : List (List ℕ)) → IsRun ws → 4 ≤ length ws
+run_length [] run = absurd cc
+run_length (a ∷ []) run = absurd (let e = second_true (fits slots.Run a) false run in cc)
+run_length (a ∷ b ∷ []) run = absurd (let e = second_true (fits slots.Run a) false run in cc)
+run_length (a ∷ b ∷ c ∷ []) run = absurd (let e = second_true (fits slots.Run a) false run in cc)
+run_length (a ∷ b ∷ c ∷ d ∷ ws) run = omega arith
 
-pub wrong_count : (ws : List (List ℕ)) (w d : List ℕ) → slice_get ws 0 ≡ Some w → w ≡ codes "run" → slice_get ws 3 ≡ Some d
-    → ((count : ℕ) → ¬ IsWorkers d count) → IsUsageAt IsRun ws 3
-wrong_count [] w d first right fourth wrong = absurd (let h : None ≡ Some w = first in cc)
-wrong_count (a ∷ []) w d first right fourth wrong = absurd (let h : None ≡ Some d = fourth in cc)
-wrong_count (a ∷ b ∷ []) w d first right fourth wrong = absurd (let h : None ≡ Some d = fourth in cc)
-wrong_count (a ∷ b ∷ c ∷ []) w d first right fourth wrong = absurd (let h : None ≡ Some d = fourth in cc)
-wrong_count (a ∷ b ∷ c ∷ x ∷ rest) w d first right fourth wrong =
-    let e : Some a ≡ Some w = first in
-    let f : Some x ≡ Some d = fourth in
-    let same : codes "run" ≡ a = cc in
-    let here : d ≡ x = cc in
-    let P : List ℕ → Type 0 = λ u. IsUsageAt IsRun (u ∷ b ∷ c ∷ x ∷ rest) 3 in
-    let Q : List ℕ → Type 0 = λ u. (count : ℕ) → ¬ IsWorkers u count in
-    subst P same (wrong_usage b c x rest (subst Q here wrong))
-
-pub right_words : (ws : List (List ℕ)) (w d : List ℕ) (count : ℕ) → slice_get ws 0 ≡ Some w → w ≡ codes "run" → slice_get ws 3 ≡ Some d
-    → IsWorkers d count → IsRun ws
-right_words [] w d count first right fourth fits = absurd (let h : None ≡ Some w = first in cc)
-right_words (a ∷ []) w d count first right fourth fits = absurd (let h : None ≡ Some d = fourth in cc)
-right_words (a ∷ b ∷ []) w d count first right fourth fits = absurd (let h : None ≡ Some d = fourth in cc)
-right_words (a ∷ b ∷ c ∷ []) w d count first right fourth fits = absurd (let h : None ≡ Some d = fourth in cc)
-right_words (a ∷ b ∷ c ∷ x ∷ rest) w d count first right fourth fits =
-    let e : Some a ≡ Some w = first in
-    let f : Some x ≡ Some d = fourth in
-    let same : a ≡ codes "run" = cc in
-    let here : x ≡ d = cc in
-    (b, c, d, rest, count, fits, cc)
-
--- what a look at one word says of the words' texts
-pub text_at : (xs : List (String Global)) (k : ℕ) (s : String Global) → slice_get xs k ≡ Some s → slice_get (texts xs) k ≡ Some (string_bytes s)
-text_at xs k s found = slice_get-map string_bytes xs k ∙ ap (option_map string_bytes) found
-
-pub no_text_at : (xs : List (String Global)) (k : ℕ) → slice_get xs k ≡ None → slice_get (texts xs) k ≡ None
-no_text_at xs k gone = slice_get-map string_bytes xs k ∙ ap (option_map string_bytes) gone
-
-pub too_short_texts : (xs : List (String Global)) (w : List ℕ) → slice_get (texts xs) 0 ≡ Some w → w ≡ codes "run"
-    → slice_get (texts xs) 3 ≡ None → IsUsageAt IsRun (texts xs) (length xs)
-too_short_texts xs w first right gone =
-    let P : ℕ → Type 0 = λ n. IsUsageAt IsRun (texts xs) n in
-    subst P (length-texts xs) (too_short (texts xs) w first right gone)
-
-pub one_file : (xs : List (String Global)) → length (texts xs) ≡ length xs
-one_file xs = length-texts xs
-
-pub not_run : (ws : List (List ℕ)) → (slice_get ws 0 ≡ Some (codes "run") → ⊥) → IsUsageAt IsRun ws 0
-not_run [] other = empty_usage
-not_run (a ∷ rest) other = other_usage a rest (λ same. other (ap Some same))
+pub not_true : (b : Bool) → b ≡ false → b ≡ true → ⊥
+not_true true e t = cc
+not_true false e t = cc

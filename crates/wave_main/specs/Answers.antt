@@ -1,15 +1,23 @@
 -- What the answers of the top calls say.
-use Rattle.std.specs.Prelude.{◌≡◌, ◌≢◌, ◌⊎◌, ◌↔◌, ℕ, List, Option, Some}
+use Rattle.std.specs.Prelude.{◌≡◌, ◌≢◌, ◌⊎◌, ◌↔◌, ℕ, List, Option, Some, length, Result, Ok, Err}
 use Rattle.wave_io.specs.Faults.{Rose}
 use Rattle.wave_io.specs.Written.{grown, TookPart}
-use Rattle.wave_main.specs.declared.input.Input.{Input}
 use Rattle.wave_main.specs.declared.status.Status.{Status}
-use Rattle.wave_main.specs.declared.status.Status.TheVariants.{Done, Usage, ReadFault, NotBuilt, WriteFault, Memory}
-use Rattle.wave_main.specs.Commands.{NamesUnbuilt}
-use Rattle.wave_main.specs.Run.{RunFiles, AreFilesOf, IsInput, IsBuiltRun, IsReadFault, RefusesWords, RefusesFiles, Changes, word_of, run_text}
+use Rattle.wave_main.specs.declared.status.Status.TheVariants.{Done, Usage, ReadFault, LoopText, LoopName, LoopLimit, MatrixText, Shape, NotBuilt, WriteFault, Memory}
+use Rattle.wave_main.specs.Commands.{IsFilePlace, Prints, Refuses}
+use Rattle.wave_main.specs.Files.{MayBe, word_of}
 use Rattle.wave_main.specs.Status.{fault_line}
 
--- the answer of the whole program's call to these words: how the call changed what it was handed
+-- what a call may change: the counts of faults at each name, what the output took, and its faults
+pub record Changes : Type 0 where
+  pub reads_before : List ℕ → ℕ
+  pub reads_after : List ℕ → ℕ
+  pub before : Option (List ℕ)
+  pub after : Option (List ℕ)
+  pub faults_before : ℕ
+  pub faults_after : ℕ
+
+-- the answer of a call to these words: how the call changed what it was handed
 pub record Call : Type 0 where
   pub words : List (List ℕ)
   -- the bytes of the files, by name, where the library tells them
@@ -18,11 +26,28 @@ pub record Call : Type 0 where
   pub changes : Changes
   pub status : Status
 
+-- bytes that the files may have, one list for each word
+pub record AreFilesOf (held : List ℕ → Option (List ℕ)) (words files : List (List ℕ)) : Type 0 where
+  pub one_each : length files ≡ length words
+  pub may_be : (place : ℕ) → IsFilePlace words place → MayBe (held (word_of words place)) (word_of files place)
+
+-- files that are told
+pub record AreTold (held : List ℕ → Option (List ℕ)) (words files : List (List ℕ)) : Type 0 where
+  pub one_each : length files ≡ length words
+  pub told : (place : ℕ) → IsFilePlace words place → held (word_of words place) ≡ Some (word_of files place)
+
+-- the word names a file of the command, and the count of faults at its name rose
+abbrev pub IsReadFault : List (List ℕ) → Changes → ℕ → Type 0
+IsReadFault words changes word =
+    IsFilePlace words word × Rose (changes.reads_before (word_of words word)) (changes.reads_after (word_of words word))
+
 -- a status that is a refusal of words or of files
 abbrev pub IsRefusal : Status → Type 0
-IsRefusal (Usage place) = Unit {0}
-IsRefusal (NotBuilt word) = Unit {0}
-IsRefusal _ = ⊥
+IsRefusal Done = ⊥
+IsRefusal (ReadFault word) = ⊥
+IsRefusal WriteFault = ⊥
+IsRefusal Memory = ⊥
+IsRefusal _ = Unit {0}
 
 -- neither want of memory nor a fault of reading, to which each refusal yields
 abbrev pub IsSettled : Status → Type 0
@@ -30,49 +55,47 @@ IsSettled Memory = ⊥
 IsSettled (ReadFault word) = ⊥
 IsSettled _ = Unit {0}
 
--- words or files call for this refusal, and for none before it
-abbrev pub Refuses : List (List ℕ) → RunFiles → Status → Type 0
-Refuses words files status =
-    (NamesUnbuilt words × (status ≡ NotBuilt 0))
-    ⊎ (¬ NamesUnbuilt words × RefusesWords words status)
-    ⊎ (IsBuiltRun words × RefusesFiles files status)
+-- the end of a call that may answer a status in place of going on
+abbrev pub status_of : {T : Type 0} → Result T Status → Status
+status_of (Ok value) = Done
+status_of (Err status) = status
 
--- files that are told
-pub record AreTold (held : List ℕ → Option (List ℕ)) (words : List (List ℕ)) (files : RunFiles) : Type 0 where
-  pub loop_file : held (word_of words 1) ≡ Some files.loop_file
-  pub matrix : held (word_of words 2) ≡ Some files.matrix
-  pub vector : held (word_of words 4) ≡ Some files.vector
+-- what each end of a call says of its words, its files and what was put
+abbrev pub Ends : List (List ℕ) → List (List ℕ) → Changes → Status → Type 0
+Ends words files changes Done = (text : List ℕ) × Prints words files text × (changes.after ≡ grown changes.before text)
+Ends words files changes WriteFault =
+    Rose changes.faults_before changes.faults_after × ((text : List ℕ) × Prints words files text × TookPart changes.before changes.after text)
+Ends words files changes Memory = changes.after ≡ changes.before
+Ends words files changes (ReadFault word) = IsReadFault words changes word × (changes.after ≡ changes.before)
+Ends words files changes status = Refuses words files status × (changes.after ≡ changes.before)
 
 -- no count of faults rose
 pub record HasNoFault (call : Call) : Type 0 where
   pub writes : ¬ Rose call.changes.faults_before call.changes.faults_after
   pub reads : (word : ℕ) → ¬ IsReadFault call.words call.changes word
 
--- what the text of the run made of what was put before
-abbrev pub printed : Call → Input → Option (List ℕ)
-printed call input = grown call.changes.before (run_text input)
-
--- The answer of the program's call.
+-- The answer of a call.
 pub record IsAnswer (call : Call) : Type 0 where
   -- bytes that the files may have: those that are told, and some where none are told
-  pub files : RunFiles
+  pub files : List (List ℕ)
   pub of_names : AreFilesOf call.held call.words files
   -- each refusal comes exactly where words and files call for it
   pub refused : IsSettled call.status → (why : Status) → IsRefusal why → (call.status ≡ why) ↔ Refuses call.words files why
-  -- after Done the text of the run was put
-  pub done : call.status ≡ Done → IsBuiltRun call.words × ((input : Input) × IsInput files input × (call.changes.after ≡ printed call input))
+  -- after Done the text of the command was put
+  pub done : call.status ≡ Done → (text : List ℕ) × Prints call.words files text × (call.changes.after ≡ grown call.changes.before text)
   -- after a fault of writing, whose count rose, a first part of the text was put
-  pub cut : call.status ≡ WriteFault → IsBuiltRun call.words × ((input : Input) × IsInput files input × TookPart call.changes.before call.changes.after (run_text input))
+  pub cut : call.status ≡ WriteFault → (text : List ℕ) × Prints call.words files text × TookPart call.changes.before call.changes.after text
   pub write_fault : call.status ≡ WriteFault → Rose call.changes.faults_before call.changes.faults_after
   -- a fault of reading names a file of the command at whose name the count rose
   pub read_fault : (word : ℕ) → call.status ≡ ReadFault word → IsReadFault call.words call.changes word
   -- nothing is put otherwise
   pub keeps : call.status ≢ Done → call.status ≢ WriteFault → call.changes.after ≡ call.changes.before
-  -- good words, told files that are an input, no fault: the answer is Done or Memory
-  pub complete : IsBuiltRun call.words → (told : RunFiles) → AreTold call.held call.words told → (input : Input) → IsInput told input → HasNoFault call
+  -- words of a command, told files from which it prints a text, no fault: the answer is Done or Memory
+  pub complete : (told : List (List ℕ)) → AreTold call.held call.words told → (text : List ℕ) → Prints call.words told text → HasNoFault call
       → (call.status ≡ Done) ⊎ (call.status ≡ Memory)
-  -- told files: after Done the text of their one input was put
-  pub prints : call.status ≡ Done → (told : RunFiles) → AreTold call.held call.words told → (input : Input) → IsInput told input → call.changes.after ≡ printed call input
+  -- told files: after Done that text was put
+  pub prints : call.status ≡ Done → (told : List (List ℕ)) → AreTold call.held call.words told → (text : List ℕ) → Prints call.words told text
+      → call.changes.after ≡ grown call.changes.before text
 
 -- what standard error took: the fault line, or a first part of it where its count of faults rose
 abbrev pub SaysWhy : Status → Option (List ℕ) → Option (List ℕ) → ℕ → ℕ → Type 0

@@ -1,5 +1,5 @@
 -- The bytes of files, told or not.
-use Rattle.std.specs.Prelude.{◌≡◌, ℕ, ◌<◌, ◌≤◌, List, Option, Some, None, length, IfSome, Vec}
+use Rattle.std.specs.Prelude.{◌≡◌, ℕ, ◌<◌, ◌≤◌, ◌^◌, List, [], ◌∷◌, Option, Some, None, length, IfSome, Vec, slice_index_or}
 use Rattle.std.specs.declared.alloc.Global.{Global}
 
 -- bytes that a file may have: those that are told, and any where none are told
@@ -14,3 +14,21 @@ IsFetched limit bytes None = limit < length bytes
 -- some bytes that the file may have are those that were fetched
 abbrev pub IsOfFile : ℕ → Option (List ℕ) → Option (Vec ℕ Global) → Type 0
 IsOfFile limit told fetched = (bytes : List ℕ) × MayBe told bytes × IsFetched limit bytes fetched
+
+-- the same for files one after another
+abbrev pub AreFetched : ℕ → List (List ℕ) → List (Option (Vec ℕ Global)) → Type 0
+AreFetched limit [] [] = Unit {0}
+AreFetched limit (bytes ∷ more) (fetched ∷ others) = IsFetched limit bytes fetched × AreFetched limit more others
+AreFetched limit _ _ = ⊥
+
+abbrev pub MayBeAll : (List ℕ → Option (List ℕ)) → List (List ℕ) → List (List ℕ) → Type 0
+MayBeAll held [] [] = Unit {0}
+MayBeAll held (name ∷ names) (bytes ∷ more) = MayBe (held name) bytes × MayBeAll held names more
+MayBeAll held _ _ = ⊥
+
+abbrev pub AreOfFiles : (List ℕ → Option (List ℕ)) → List (List ℕ) → List (Option (Vec ℕ Global)) → Type 0
+AreOfFiles held names fetched = (files : List (List ℕ)) × MayBeAll held names files × AreFetched (2 ^ 28) files fetched
+
+-- the word at a place, and the bytes of the file that it names
+abbrev pub word_of : List (List ℕ) → ℕ → List ℕ
+word_of words place = slice_index_or words place []

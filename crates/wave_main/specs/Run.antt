@@ -1,161 +1,64 @@
--- A run: its files, its input, why it is refused, and how it ends.
-use Rattle.std.specs.Prelude.{◌≡◌, ◌⊎◌, ℕ, ◌≤◌, ◌^◌, ℤ, pos, List, [], ◌∷◌, length, Option, Some, Result, Ok, Err, slice_get, slice_index_or, replicate, codes}
-use Rattle.loop_core.specs.Lists.{Lists}
+-- A run: its input, and why its files are refused.
+use Rattle.std.specs.Prelude.{◌≡◌, ℕ, ◌+◌, ℤ, List, drop, Option, Some, None}
+use Rattle.std.specs.Option.{option_map}
+use Rattle.text_base.specs.Lines.{lines}
+use Rattle.loop_core.specs.declared.decl.Decl.{Decl}
+use Rattle.loop_core.specs.declared.nest.Nest.{Nest}
 use Rattle.loop_core.specs.Sequence.{sequential}
-use Rattle.loop_core.specs.UnitForward.{unit_forward}
-use Rattle.wave_io.specs.Faults.{Rose}
-use Rattle.wave_io.specs.Written.{grown, TookPart}
-use Rattle.wave_main.specs.declared.input.Input.{Input}
-use Rattle.wave_main.specs.declared.input.RunBytes.{RunBytes}
+use Rattle.loop_syntax.specs.Numbered.{numbered}
+use Rattle.loop_syntax.specs.TextNest.{declarations}
+use Rattle.array_bind.specs.declared.shape.ShapeRefusal.{ShapeRefusal}
+use Rattle.array_bind.specs.declared.shape.ShapeRefusal.TheVariants as refusals
+use Rattle.array_bind.specs.Lists.{arrays_of, values_of}
+use Rattle.array_bind.specs.Shape.{shape_fault}
+use Rattle.wave_main.specs.declared.run.Input.{Input}
+use Rattle.wave_main.specs.declared.status.ShapeKind.TheVariants as shapes
 use Rattle.wave_main.specs.declared.status.Status.{Status}
-use Rattle.wave_main.specs.declared.status.Status.TheVariants.{Done, Usage, ReadFault, NotBuilt, WriteFault, Memory}
+use Rattle.wave_main.specs.declared.status.Status.TheVariants.{Shape, Memory}
 use Rattle.wave_main.specs.ArrayText.{arrays_text}
-use Rattle.wave_main.specs.Files.{MayBe, IsFetched}
-use Rattle.wave_main.specs.PlainArraysOf.{row_pointers, columns, diagonals, entry_values}
-use Rattle.wave_main.specs.PlainText.{PlainMatrix, IsPlainMatrix, IsPlainVector, forward_loop_text}
-use Rattle.wave_main.specs.Words.{IsRun, IsUsageAt}
+use Rattle.wave_main.specs.Files.{word_of}
+use Rattle.wave_main.specs.Loops.{IsLoop, loop_fault}
+use Rattle.wave_main.specs.Matrices.{Parts, first_status, matrix_fault, matrix_of, vectors_fault, vectors_of}
 
--- The files.
+-- file k is named by word k + 4
+abbrev pub shape_status : ShapeRefusal → Status
+shape_status (refusals.NotSquare rows columns) = Shape (shapes.NotSquare rows columns)
+shape_status (refusals.Files have want) = Shape (shapes.Files have want)
+shape_status (refusals.Length file have want) = Shape (shapes.Length (file + 4) have want)
+shape_status refusals.Memory = Memory
 
--- the bytes of the files of a run
-pub record RunFiles : Type 0 where
-  pub loop_file : List ℕ
-  pub matrix : List ℕ
-  pub vector : List ℕ
+abbrev pub binding_fault : List Decl → Parts → List (List ℤ) → Option Status
+binding_fault decls m vectors = option_map shape_status (shape_fault decls m.0 m.1 m.2 vectors)
 
-abbrev pub word_of : List (List ℕ) → ℕ → List ℕ
-word_of words place = slice_index_or words place []
+abbrev pub declared : List ℕ → List Decl
+declared loop_file = declarations (numbered (lines loop_file))
 
--- bytes that the files named by words 1, 2 and 4 may have
-pub record AreFilesOf (held : List ℕ → Option (List ℕ)) (words : List (List ℕ)) (files : RunFiles) : Type 0 where
-  pub loop_file : MayBe (held (word_of words 1)) files.loop_file
-  pub matrix : MayBe (held (word_of words 2)) files.matrix
-  pub vector : MayBe (held (word_of words 4)) files.vector
+-- why files are refused: the loop, the matrix, the vectors in the order of their words, and then the shapes
+abbrev pub files_fault : List ℕ → List ℕ → List (List ℕ) → Option Status
+files_fault loop_file matrix vectors =
+    first_status (loop_fault loop_file) (first_status (matrix_fault matrix) (first_status (vectors_fault 4 vectors) (binding_fault (declared loop_file) (matrix_of matrix) (vectors_of vectors))))
 
--- the names in the words
-pub record AreNames (words : List (List ℕ)) (loop_file matrix vector : List ℕ) : Type 0 where
-  pub loop_file_is : word_of words 1 ≡ loop_file
-  pub matrix_is : word_of words 2 ≡ matrix
-  pub vector_is : word_of words 4 ≡ vector
+-- the bytes of the files of a run, one list for each word
+abbrev pub vector_files : List (List ℕ) → List (List ℕ)
+vector_files files = drop 4 files
 
--- bytes that the files of these names may have
-pub record AreFilesNamed (held : List ℕ → Option (List ℕ)) (loop_file matrix vector : List ℕ) (files : RunFiles) : Type 0 where
-  pub of_loop_file : MayBe (held loop_file) files.loop_file
-  pub of_matrix : MayBe (held matrix) files.matrix
-  pub of_vector : MayBe (held vector) files.vector
+abbrev pub run_fault : List (List ℕ) → Option Status
+run_fault files = files_fault (word_of files 1) (word_of files 2) (vector_files files)
 
--- the count of faults at the name of the word rose
-abbrev pub FailsAt : (List ℕ → ℕ) → (List ℕ → ℕ) → List ℕ → List ℕ → List ℕ → Status → Type 0
-FailsAt old new loop_file matrix vector status =
-    ((status ≡ ReadFault 1) × Rose (old loop_file) (new loop_file))
-    ⊎ ((status ≡ ReadFault 2) × Rose (old matrix) (new matrix))
-    ⊎ ((status ≡ ReadFault 4) × Rose (old vector) (new vector))
+-- the files are this loop with its arrays
+pub record IsInput (loop_file matrix : List ℕ) (vectors : List (List ℕ)) (input : Input) : Type 0 where
+  pub is_loop : IsLoop loop_file input.nest
+  pub accepted : files_fault loop_file matrix vectors ≡ None
+  pub arrays : input.arrays ≡ arrays_of input.nest.decls (matrix_of matrix).0 (matrix_of matrix).2 (vectors_of vectors)
+  pub values : input.values ≡ values_of input.nest.decls (matrix_of matrix).0 (matrix_of matrix).2 (vectors_of vectors)
 
--- what was fetched of these files: at most 65,536 bytes of the loop file, and 2 ^ 28 of the others
-pub record AreFetched (files : RunFiles) (got : RunBytes) : Type 0 where
-  pub loop_file : IsFetched 65536 files.loop_file got.loop_file
-  pub matrix : IsFetched (2 ^ 28) files.matrix got.matrix
-  pub vector : IsFetched (2 ^ 28) files.vector got.vector
+-- the text of a run: the arrays that the loop writes, as the loop run in order leaves them
+abbrev pub run_text : Nest → Parts → List (List ℤ) → List ℕ
+run_text nest m vectors = arrays_text nest (sequential nest (arrays_of nest.decls m.0 m.2 vectors) (values_of nest.decls m.0 m.2 vectors))
 
--- The input.
-
-abbrev pub IsBuiltLoop : List ℕ → Type 0
-IsBuiltLoop bytes = bytes ≡ forward_loop_text
-
-abbrev pub IsBuiltMatrix : List ℕ → PlainMatrix → Type 0
-IsBuiltMatrix bytes m = (length bytes ≤ 2 ^ 28) × IsPlainMatrix bytes m
-
--- as long as the matrix has rows
-abbrev pub IsBuiltVector : List ℕ → PlainMatrix → List ℤ → Type 0
-IsBuiltVector bytes m b = (length bytes ≤ 2 ^ 28) × IsPlainVector bytes b × (length b ≡ m.rows)
-
--- a list for each array number: a.ptr, a.col, a.diag, a.val, b, x
-abbrev pub forward_lists : PlainMatrix → Lists
-forward_lists m = record {
-  n = m.rows;
-  nnz = length m.entries;
-  lists = row_pointers m ∷ columns m ∷ diagonals m ∷ [] ∷ [] ∷ [] ∷ [];
-}
-
-abbrev pub forward_values : PlainMatrix → List ℤ → List (List ℤ)
-forward_values m b = [] ∷ [] ∷ [] ∷ entry_values m ∷ b ∷ replicate m.rows (pos 0) ∷ []
-
-abbrev pub forward_input : PlainMatrix → List ℤ → Input
-forward_input m b = record { nest = unit_forward; arrays = forward_lists m; values = forward_values m b }
-
--- the files are those of this loop with these arrays
-pub record IsInput (files : RunFiles) (input : Input) : Type 0 where
-  pub matrix : PlainMatrix
-  pub vector : List ℤ
-  pub is_loop : IsBuiltLoop files.loop_file
-  pub is_matrix : IsBuiltMatrix files.matrix matrix
-  pub is_vector : IsBuiltVector files.vector matrix vector
-  pub same : input ≡ forward_input matrix vector
-
--- the text of a run: the written arrays as the loop run in order leaves them
-abbrev pub run_text : Input → List ℕ
-run_text input = arrays_text input.nest (sequential input.nest input.arrays input.values)
-
--- The refusals.
-
-abbrev pub HasOneWorker : List (List ℕ) → Type 0
-HasOneWorker words = slice_get words 3 ≡ Some (codes "1")
-
-abbrev pub HasOneFile : List (List ℕ) → Type 0
-HasOneFile words = length words ≡ 5
-
--- the words of a run that is built
-pub record IsBuiltRun (words : List (List ℕ)) : Type 0 where
-  pub run : IsRun words
-  pub one_worker : HasOneWorker words
-  pub one_file : HasOneFile words
-
-abbrev pub RefusesWords : List (List ℕ) → Status → Type 0
-RefusesWords words (Usage place) = IsUsageAt IsRun words place
-RefusesWords words (NotBuilt word) = IsRun words × (((word ≡ 3) × ¬ HasOneWorker words) ⊎ ((word ≡ 4) × HasOneWorker words × ¬ HasOneFile words))
-RefusesWords words _ = ⊥
-
--- the first file that hasn't the form that is built
-abbrev pub RefusesFiles : RunFiles → Status → Type 0
-RefusesFiles files (NotBuilt word) =
-    ((word ≡ 1) × ¬ IsBuiltLoop files.loop_file)
-    ⊎ ((word ≡ 2) × IsBuiltLoop files.loop_file × ((m : PlainMatrix) → ¬ IsBuiltMatrix files.matrix m))
-    ⊎ ((word ≡ 4) × IsBuiltLoop files.loop_file × ((m : PlainMatrix) × IsBuiltMatrix files.matrix m)
-    × ((m : PlainMatrix) (b : List ℤ) → IsBuiltMatrix files.matrix m → ¬ IsBuiltVector files.vector m b))
-RefusesFiles files _ = ⊥
-
--- The end.
-
--- what a call may change: the counts of faults at each name, what the output took, and its faults
-pub record Changes : Type 0 where
-  pub reads_before : List ℕ → ℕ
-  pub reads_after : List ℕ → ℕ
-  pub before : Option (List ℕ)
-  pub after : Option (List ℕ)
-  pub faults_before : ℕ
-  pub faults_after : ℕ
-
--- the word names a file of the run, and the count of faults at its name rose
-abbrev pub IsReadFault : List (List ℕ) → Changes → ℕ → Type 0
-IsReadFault words changes word =
-    IsBuiltRun words × ((word ≡ 1) ⊎ (word ≡ 2) ⊎ (word ≡ 4))
-    × Rose (changes.reads_before (word_of words word)) (changes.reads_after (word_of words word))
-
--- the end of a call that may answer a status in place of going on
-abbrev pub status_of : {T : Type 0} → Result T Status → Status
-status_of (Ok value) = Done
-status_of (Err status) = status
-
--- what each end of a run says of its words, its files and what was put
-abbrev pub RunEnds : List (List ℕ) → RunFiles → Changes → Status → Type 0
-RunEnds words files changes Done =
-    IsBuiltRun words × ((input : Input) × IsInput files input × (changes.after ≡ grown changes.before (run_text input)))
-RunEnds words files changes WriteFault =
-    IsBuiltRun words × Rose changes.faults_before changes.faults_after
-    × ((input : Input) × IsInput files input × TookPart changes.before changes.after (run_text input))
-RunEnds words files changes Memory = changes.after ≡ changes.before
-RunEnds words files changes (ReadFault word) = IsReadFault words changes word × (changes.after ≡ changes.before)
-RunEnds words files changes (Usage place) = RefusesWords words (Usage place) × (changes.after ≡ changes.before)
-RunEnds words files changes (NotBuilt word) =
-    (RefusesWords words (NotBuilt word) ⊎ (IsBuiltRun words × RefusesFiles files (NotBuilt word)))
-    × (changes.after ≡ changes.before)
+-- the files are a loop with its arrays, and this is the text of its run
+pub record RunPrints (loop_file matrix : List ℕ) (vectors : List (List ℕ)) (text : List ℕ) : Type 0 where
+  pub nest : Nest
+  pub is_loop : IsLoop loop_file nest
+  pub accepted : files_fault loop_file matrix vectors ≡ None
+  pub printed : text ≡ run_text nest (matrix_of matrix) (vectors_of vectors)

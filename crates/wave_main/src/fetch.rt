@@ -1,18 +1,17 @@
 // Files, fetched whole.
-ghost use Rattle.std.specs.Prelude.{◌≡◌, ℕ, List, ◌≤◌, ◌^◌, ◌⊎◌, IfOk, IfErr};
+ghost use Rattle.std.specs.Prelude.{◌≡◌, ℕ, List, ◌+◌, ◌<◌, ◌≤◌, ◌^◌, ◌⊎◌, [], ◌∷◌, drop, length, IfOk, IfErr};
 ghost use Rattle.wave_io.specs.Faults.{Rose};
-ghost use Rattle.wave_main.specs.Files.{IsOfFile};
-ghost use Rattle.wave_main.specs.Run.{RunFiles, AreFilesNamed, AreFetched, FailsAt};
+ghost use Rattle.wave_words.specs.Words.{texts};
+ghost use Rattle.wave_main.specs.Files.{IsOfFile, AreOfFiles, word_of};
+ghost use Rattle.wave_main.specs.Fetching.{IsFaultFrom, IsRunFault, IsRunFetched};
 
-use crate::input::RunBytes;
 use crate::status::Status;
-use crate::words::RunNames;
 use std::alloc::Global;
 use wave_io::library::Library;
 use wave_io::read_all::{ReadCause, read_all};
 
 /// The most bytes of a loop file.
-const LOOP_LIMIT: u64 = 65536;
+pub const LOOP_LIMIT: u64 = 65536;
 
 /// The most bytes of a matrix or vector file: 2^28.
 const FILE_LIMIT: u64 = 268435456;
@@ -41,21 +40,67 @@ pub fn fetch_file<L: Library>(
     }
 }
 
+/// The bytes of the vector files that these words name, of which the first has a place, up to the first fault.
+fn fetch_vectors<L: Library>(
+    alloc: Global,
+    lib: &mut L,
+    names: &[String],
+    first: u32,
+) -> Result<Vec<Option<Vec<u8>>>, Status>
+    requires { first + length names.now < 2 ^ 32 }
+    ensures files { IfOk result (λ got. AreOfFiles (L.held lib.old) (texts names.now) got.items) }
+    ensures fault { IfErr result (λ status. (status ≡ Status.Memory) ⊎ IsFaultFrom first (texts names.now) (L.faults lib.old) (L.faults lib.new) status) }
+    ensures never_fall { (other : List ℕ) → L.faults lib.old other ≤ L.faults lib.new other }
+    ensures stays { (other : List ℕ) → L.held lib.new other ≡ L.held lib.old other }
+{
+    let mut files = Vec::new(alloc);
+    for at in 0..names.len() {
+        let word = first + at as u32;
+        let file = fetch_file(alloc, lib, names[at].as_str(), word, FILE_LIMIT)?;
+        files.push(file)?;
+    }
+    Ok(files)
+}
+
+/// The bytes of the files of a run; `None` where a file has more than its limit.
+#[derive(Drop)]
+pub struct RunBytes {
+    pub loop_file: Option<Vec<u8>>,
+    pub matrix: Option<Vec<u8>>,
+    pub vectors: Vec<Option<Vec<u8>>>,
+}
+
 /// Fetches the files of a run in the order of its words, up to the first fault.
 pub fn fetch_run<L: Library>(
     alloc: Global,
     lib: &mut L,
-    run: &RunNames<'_>,
+    words: &[String],
 ) -> Result<RunBytes, Status>
-    ensures fetched { IfOk result (λ got. (files : RunFiles) × AreFilesNamed (L.held lib.old) run.now.loop_file.now run.now.matrix.now run.now.vector.now files × AreFetched files got) }
-    ensures fault { IfErr result (λ status. (status ≡ Status.Memory) ⊎ FailsAt (L.faults lib.old) (L.faults lib.new) run.now.loop_file.now run.now.matrix.now run.now.vector.now status) }
+    requires long { 4 ≤ length words.now }
+    requires few { length words.now < 2 ^ 32 }
+    ensures fetched { IfOk result (λ got. (files : List (List ℕ)) × IsRunFetched (L.held lib.old) (texts words.now) files got) }
+    ensures fault { IfErr result (λ status. (status ≡ Status.Memory) ⊎ IsRunFault (texts words.now) (L.faults lib.old) (L.faults lib.new) status) }
 {
-    let loop_file = fetch_file(alloc, lib, run.loop_file, 1, LOOP_LIMIT)?;
-    let matrix = fetch_file(alloc, lib, run.matrix, 2, FILE_LIMIT)?;
-    let vector = fetch_file(alloc, lib, run.vector, 4, FILE_LIMIT)?;
+    let loop_file = fetch_file(alloc, lib, words[1].as_str(), 1, LOOP_LIMIT)?;
+    let matrix = fetch_file(alloc, lib, words[2].as_str(), 2, FILE_LIMIT)?;
+    let vectors = fetch_vectors(alloc, lib, &words[4..], 4)?;
     Ok(RunBytes {
         loop_file,
         matrix,
-        vector,
+        vectors,
     })
+}
+
+/// Fetches the file of `show`.
+pub fn fetch_loop<L: Library>(
+    alloc: Global,
+    lib: &mut L,
+    words: &[String],
+) -> Result<Option<Vec<u8>>, Status>
+    requires { length words.now ≡ 2 }
+    ensures file { IfOk result (λ file. IsOfFile 65536 (L.held lib.old (word_of (texts words.now) 1)) file) }
+    ensures fault { IfErr result (λ status. (status ≡ Status.Memory) ⊎
+        ((status ≡ Status.ReadFault 1) × Rose (L.faults lib.old (word_of (texts words.now) 1)) (L.faults lib.new (word_of (texts words.now) 1)))) }
+{
+    fetch_file(alloc, lib, words[1].as_str(), 1, LOOP_LIMIT)
 }

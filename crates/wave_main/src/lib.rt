@@ -1,12 +1,13 @@
-//! The program's own call: from words and files to the printed arrays or to a fault line.
+//! What the program does: words and files to a text on standard output, or one line that says why not.
 #![tactic(auto)]
 
+pub mod bind;
 pub mod fetch;
-pub mod forward;
-pub mod input;
-pub mod judge;
-pub mod plain;
+pub mod loops;
+pub mod matrices;
 pub mod report;
+pub mod run;
+pub mod show;
 pub mod status;
 #[cfg(test)]
 mod tests;

@@ -2,7 +2,40 @@
 ghost use Rattle.std.specs.Prelude.{◌≡◌};
 ghost use Rattle.wave_main.specs.Status.{code_of};
 
+use loop_syntax::refusal::{LimitKind, NameKind};
+use mtx_read::refusal::{BigKind, EntryKind};
+use std::alloc::{AllocError, AllocFailed};
 use wave_base::types;
+
+/// Why a file is no matrix or vector. Lines count from 1, and so do the words of the first line.
+#[derive(Clone, Copy, Debug, PartialEq, Eq)]
+pub enum MtxFault {
+    /// The first line doesn't begin as that of a matrix.
+    Header,
+    /// A word of the first line names a form, field or symmetry that isn't read.
+    Field { word: u32 },
+    /// The size line is missing, or isn't the numbers that it has to be.
+    Size { line: u32 },
+    /// An entry line is faulty.
+    Entry { line: u32, kind: EntryKind },
+    /// Fewer entry lines than announced.
+    Short { have: u64, want: u64 },
+    /// A line behind the announced entries.
+    Extra { line: u32 },
+    /// The file, or a number of its size line, passes a limit.
+    Big { what: BigKind, value: u64 },
+}
+
+/// Which shapes don't fit.
+#[derive(Clone, Copy, Debug, PartialEq, Eq)]
+pub enum ShapeKind {
+    /// The matrix isn't square.
+    NotSquare { rows: u32, columns: u32 },
+    /// Another number of files than the loop declares.
+    Files { have: u32, want: u32 },
+    /// The first file that hasn't as many values as its array.
+    Length { word: u32, have: u64, want: u64 },
+}
 
 /// How a call of the program ends. `word` is the place, from 0, of a word of the command line.
 #[derive(Clone, Copy, Debug, PartialEq, Eq)]
@@ -13,7 +46,17 @@ pub enum Status {
     Usage { word: u32 },
     /// The file named by a word couldn't be read.
     ReadFault { word: u32 },
-    /// The word, or the file that it names, has a form that isn't built yet.
+    /// The least line of the loop file that has no form of the language or doesn't fit.
+    LoopText { line: u32 },
+    /// The first name of the loop file that breaks a rule.
+    LoopName { line: u32, kind: NameKind },
+    /// The first count of the loop file that passes its limit; line 0 stands for the whole file.
+    LoopLimit { line: u32, kind: LimitKind },
+    /// The first file that is no matrix or vector.
+    MatrixText { word: u32, cause: MtxFault },
+    /// The shapes of the files don't fit the loop.
+    Shape(ShapeKind),
+    /// The word asks for what isn't built yet.
     NotBuilt { word: u32 },
     /// The text couldn't be put whole.
     WriteFault,
@@ -29,8 +72,13 @@ impl Status {
         match self {
             Status::Done => 0,
             Status::Usage { .. } => 2,
+            Status::LoopText { .. } => 3,
+            Status::LoopName { .. } => 4,
+            Status::LoopLimit { .. } => 5,
             Status::ReadFault { .. } => 7,
             Status::WriteFault => 8,
+            Status::MatrixText { .. } => 9,
+            Status::Shape(_) => 10,
             Status::Memory => 12,
             Status::NotBuilt { .. } => 13,
         }
@@ -43,6 +91,26 @@ impl From<types::Memory> for Status {
     ghost from_gives = { λ _ status. status ≡ Memory };
 
     fn from(_want: types::Memory) -> Status {
+        Status::Memory
+    }
+}
+
+impl From<AllocError> for Status {
+    ghost use Rattle.wave_main.specs.declared.status.Status.TheVariants.{Memory};
+
+    ghost from_gives = { λ _ status. status ≡ Memory };
+
+    fn from(_refused: AllocError) -> Status {
+        Status::Memory
+    }
+}
+
+impl<T: Drop> From<AllocFailed<T>> for Status {
+    ghost use Rattle.wave_main.specs.declared.status.Status.TheVariants.{Memory};
+
+    ghost from_gives = { λ _ status. status ≡ Memory };
+
+    fn from(_refused: AllocFailed<T>) -> Status {
         Status::Memory
     }
 }

@@ -22,6 +22,18 @@ const ONE_MATRIX: &str = "%%MatrixMarket matrix coordinate integer general\n1 1 
 
 const ONE_VECTOR: &str = "%%MatrixMarket matrix array integer general\n1 1\n7\n";
 
+const BY_COLUMNS: &str =
+    "matrix a csc\nvector x n file\nloop j\n  set x[j] = x[j] / a.val[a.diag[j]]\n  for p in a.diag[j]+1..a.ptr[j+1]\n    set x[a.row[p]] = x[a.row[p]] - a.val[p] * x[j]\n  end\nend\n";
+
+const BY_COLUMNS_MATRIX: &str =
+    "%%MatrixMarket matrix coordinate integer general\n4 4 6\n1 1 1\n2 2 1\n3 3 1\n4 4 1\n4 2 2\n4 3 3\n";
+
+const BY_COLUMNS_VECTOR: &str = "%%MatrixMarket matrix array integer general\n4 1\n5\n1\n2\n20\n";
+
+const SCATTER: &str = "matrix a csr\nindex q n\nvector x n zero\nloop i\n  set x[q[i]] = 5\nend\n";
+
+const PLACES: &str = "%%MatrixMarket matrix array integer general\n3 1\n2\n0\n1\n";
+
 const RUN: [&str; 5] = ["run", "L", "A", "1", "B"];
 
 /// How a call ended, and what it put.
@@ -93,15 +105,21 @@ fn runs_print_the_solution(rt: HostRuntime) -> Result<(), Fail> {
 
 #[test]
 fn words_are_refused_before_any_file(rt: HostRuntime) -> Result<(), Fail> {
-    let table: [(&[&str], u8, &str); 8] = [
+    let table: [(&[&str], u8, &str); 14] = [
         (&[], 2, "usage word 0\n"),
         (&["walk"], 2, "usage word 0\n"),
         (&["run", "L"], 2, "usage word 2\n"),
         (&["run", "L", "A", "65"], 2, "usage word 3\n"),
+        (&["explain", "L", "L"], 2, "usage word 2\n"),
+        (&["demo", "grid", "0", "1"], 2, "usage word 2\n"),
+        (&["demo", "grid"], 2, "usage word 2\n"),
+        (&["show"], 2, "usage word 1\n"),
+        (&["show", "L", "L"], 2, "usage word 2\n"),
         (&["run", "L", "A", "2", "B"], 13, "not built word 3\n"),
-        (&["run", "L", "A", "1"], 13, "not built word 4\n"),
         (&["explain", "L"], 13, "not built word 0\n"),
-        (&["demo", "grid"], 13, "not built word 0\n"),
+        (&["demo", "lower", "0", "64"], 13, "not built word 0\n"),
+        (&["replay", "L", "A", "1", "O"], 13, "not built word 0\n"),
+        (&["check", "L", "A"], 13, "not built word 0\n"),
     ];
     for (words, code, line) in table {
         let outcome = call(&rt, words, library(rt.alloc(), &[], &[])?, 1000, 1000)?;
@@ -113,12 +131,35 @@ fn words_are_refused_before_any_file(rt: HostRuntime) -> Result<(), Fail> {
 }
 
 #[test]
-fn the_first_file_that_is_not_built_is_named(rt: HostRuntime) -> Result<(), Fail> {
+fn the_first_fault_of_the_files_is_named(rt: HostRuntime) -> Result<(), Fail> {
+    let real = "%%MatrixMarket matrix coordinate real general\n3 3 0\n";
+    let wide = "%%MatrixMarket matrix coordinate integer general\n2 3 0\n";
     let table = [
-        ("L", "x\n", MATRIX, VECTOR, "not built word 1\n"),
-        ("L", LOOP, "x\n", VECTOR, "not built word 2\n"),
-        ("L", LOOP, MATRIX, ONE_VECTOR, "not built word 4\n"),
-        ("L", LOOP, MATRIX, MATRIX, "not built word 4\n"),
+        ("L", "x\n", real, VECTOR, "loop text line 1\n"),
+        (
+            "L",
+            "matrix a csr\nloop a\nend\n",
+            real,
+            VECTOR,
+            "loop name line 2 twice\n",
+        ),
+        (
+            "L",
+            "matrix a csr\nloop i\nwhen 1048577 < n\nend\nend\n",
+            real,
+            VECTOR,
+            "loop limit line 3 constant\n",
+        ),
+        ("L", LOOP, real, "x", "matrix word 2 field 4\n"),
+        ("L", LOOP, wide, "x", "matrix word 4 header\n"),
+        ("L", LOOP, wide, VECTOR, "shape rows 2 columns 3\n"),
+        (
+            "L",
+            LOOP,
+            MATRIX,
+            ONE_VECTOR,
+            "shape length word 4 have 1 want 3\n",
+        ),
         ("M", LOOP, MATRIX, VECTOR, "read word 1\n"),
     ];
     for (name, text, matrix, vector, line) in table {
@@ -128,6 +169,86 @@ fn the_first_file_that_is_not_built_is_named(rt: HostRuntime) -> Result<(), Fail
         assert_eq!(rt; outcome.err.as_slice(), line.as_bytes());
         assert_eq!(rt; outcome.out.len(), 0);
     }
+    Ok(())
+}
+
+#[test]
+fn files_are_counted_and_each_is_read(rt: HostRuntime) -> Result<(), Fail> {
+    let given = files(MATRIX, VECTOR);
+    let none = call(
+        &rt,
+        &["run", "L", "A", "1"],
+        library(rt.alloc(), &given, &[])?,
+        1000,
+        1000,
+    )?;
+    assert_eq!(rt;
+        none.err.as_slice(),
+        b"shape files have 0 want 1\n".as_slice()
+    );
+    let surplus = call(
+        &rt,
+        &["run", "L", "A", "1", "B", "L"],
+        library(rt.alloc(), &given, &[])?,
+        1000,
+        1000,
+    )?;
+    assert_eq!(rt;
+        surplus.err.as_slice(),
+        b"matrix word 5 header\n".as_slice()
+    );
+    Ok(())
+}
+
+#[test]
+fn loops_of_each_kind_run(rt: HostRuntime) -> Result<(), Fail> {
+    let table = [
+        (
+            BY_COLUMNS,
+            BY_COLUMNS_MATRIX,
+            BY_COLUMNS_VECTOR,
+            "array x 4\n5\n1\n2\n12\n",
+        ),
+        (SCATTER, MATRIX, PLACES, "array x 3\n5\n5\n5\n"),
+    ];
+    for (text, matrix, vector, wanted) in table {
+        let files = [("L", text), ("A", matrix), ("B", vector)];
+        let outcome = call(&rt, &RUN, library(rt.alloc(), &files, &[])?, 1000, 1000)?;
+        assert_eq!(rt; outcome.status, Status::Done);
+        assert_eq!(rt; outcome.out.as_slice(), wanted.as_bytes());
+    }
+    Ok(())
+}
+
+#[test]
+fn shows_the_loop(rt: HostRuntime) -> Result<(), Fail> {
+    let table = [
+        (LOOP, LOOP),
+        (
+            "# a comment\n\nmatrix  a\tcsr\r\nloop i\nwhen 007<=n+0\nend\nend",
+            "matrix a csr\nloop i\n  when 7 <= n\n  end\nend\n",
+        ),
+    ];
+    for (text, wanted) in table {
+        let files = [("L", text)];
+        let outcome = call(
+            &rt,
+            &["show", "L"],
+            library(rt.alloc(), &files, &[])?,
+            1000,
+            1000,
+        )?;
+        assert_eq!(rt; outcome.status, Status::Done);
+        assert_eq!(rt; outcome.out.as_slice(), wanted.as_bytes());
+    }
+    let unread = call(
+        &rt,
+        &["show", "M"],
+        library(rt.alloc(), &[("L", LOOP)], &[])?,
+        1000,
+        1000,
+    )?;
+    assert_eq!(rt; unread.err.as_slice(), b"read word 1\n".as_slice());
     Ok(())
 }
 
@@ -162,18 +283,23 @@ fn a_long_loop_file_is_noted_and_fetching_goes_on(rt: HostRuntime) -> Result<(),
 }
 
 #[test]
-fn the_quiet_call_refuses(rt: HostRuntime) -> Result<(), Fail> {
+fn the_quiet_call_leaves_runs_to_others(rt: HostRuntime) -> Result<(), Fail> {
     let alloc = rt.alloc();
-    for (first, wanted) in [
-        ("show", Status::NotBuilt { word: 0 }),
-        ("run", Status::Usage { word: 0 }),
-        ("demo", Status::Usage { word: 0 }),
+    for (words, wanted) in [
+        (["show", "L"], Status::Done),
+        (["explain", "L"], Status::NotBuilt { word: 0 }),
+        (["run", "L"], Status::Usage { word: 0 }),
+        (["demo", "grid"], Status::Usage { word: 0 }),
     ] {
-        let words = strings(alloc, &[first])?;
-        let mut lib = library(alloc, &[], &[])?;
-        let mut out = MemSink::new(alloc, 10, 10, Vec::new(alloc))?;
+        let words = strings(alloc, &words)?;
+        let mut lib = library(alloc, &[("L", LOOP)], &[])?;
+        let mut out = MemSink::new(alloc, 1000, 1000, Vec::new(alloc))?;
         let mut err = MemSink::new(alloc, 100, 100, Vec::new(alloc))?;
-        let status = quiet_main(&rt, words.as_slice(), &mut lib, &mut out, &mut err);
+        let status = if words.len() < 100 {
+            quiet_main(&rt, words.as_slice(), &mut lib, &mut out, &mut err)
+        } else {
+            Status::Memory
+        };
         assert_eq!(rt; status, wanted);
     }
     Ok(())

@@ -1,17 +1,17 @@
 // The top calls.
-ghost use Rattle.std.specs.Prelude.{◌<◌, ◌^◌, ◌≡◌, ◌↔◌, ◌⊎◌, length, IsTrue};
-ghost use Rattle.wave_main.specs.Answers.{IsAnswer, SaysWhy};
-ghost use Rattle.wave_main.specs.Commands.{Begins, NamesQuiet};
-ghost use Rattle.wave_main.specs.Run.{RunFiles, AreFilesOf, RunEnds, status_of};
-ghost use Rattle.wave_main.specs.Words.{texts};
+ghost use Rattle.std.specs.Prelude.{◌<◌, ◌^◌, ◌≡◌, ◌↔◌, ◌⊎◌, List, ℕ, length, IsTrue, OnOk, IfErr};
+ghost use Rattle.wave_io.specs.Faults.{Rose};
+ghost use Rattle.wave_io.specs.Written.{grown, TookPart};
+ghost use Rattle.wave_words.specs.Words.{texts};
+ghost use Rattle.wave_main.specs.Answers.{AreFilesOf, Ends, IsAnswer, SaysWhy, status_of};
+ghost use Rattle.wave_main.specs.Commands.{IsBuiltRun, IsShow, Begins, IsOthers};
 
-use crate::fetch::fetch_run;
-use crate::judge::judge;
+use crate::fetch::{fetch_loop, fetch_run};
 use crate::report::report;
+use crate::run::run_text;
+use crate::show::show_text;
 use crate::status::Status;
-use crate::text::arrays_text;
-use crate::words::{run_names, word_at};
-use loop_meaning::run::run_in_order;
+use crate::words::{Command, built_command, word_at};
 use std::alloc::Global;
 use std::sync::Wait;
 use std::thread::Threads;
@@ -20,26 +20,14 @@ use wave_io::library::Library;
 use wave_io::put_all::put_all;
 use wave_io::sink::Sink;
 
-/// Whether the first word is a command that isn't built and that `quiet_main` serves.
-fn is_quiet_command(words: &[String]) -> bool
-    ensures { IsTrue result ↔ NamesQuiet (texts words.now) }
+/// Puts a text whole.
+fn put_text<O: Sink>(out: &mut O, text: &[u8]) -> Result<(), Status>
+    ensures whole { OnOk result (O.written out.new ≡ grown (O.written out.old) text.now) }
+    ensures part { IfErr result (λ status. (status ≡ Status.WriteFault) × Rose (O.faults out.old) (O.faults out.new) × TookPart (O.written out.old) (O.written out.new) text.now) }
 {
-    let Some(first) = word_at(words, 0) else {
-        return false;
-    };
-    first == "plan"
-        || first == "replay"
-        || first == "check"
-        || first == "explain"
-        || first == "show"
-}
-
-fn is_first_word(words: &[String], wanted: &str) -> bool
-    ensures { IsTrue result ↔ Begins (texts words.now) wanted.now }
-{
-    match word_at(words, 0) {
-        Some(first) => first == wanted,
-        None => false,
+    match put_all(out, text) {
+        Ok(()) => Ok(()),
+        Err(_) => Err(Status::WriteFault),
     }
 }
 
@@ -50,9 +38,10 @@ fn try_run<L: Library, O: Sink>(
     lib: &mut L,
     out: &mut O,
 ) -> Result<(), Status>
-    requires { length words.now < 2 ^ 32 }
-    ensures { (files : RunFiles) × AreFilesOf (L.held lib.old) (texts words.now) files
-        × RunEnds (texts words.now) files (record {
+    requires built { IsBuiltRun (texts words.now) }
+    requires few { length words.now < 2 ^ 32 }
+    ensures { (files : List (List ℕ)) × AreFilesOf (L.held lib.old) (texts words.now) files
+        × Ends (texts words.now) files (record {
           reads_before = L.faults lib.old;
           reads_after = L.faults lib.new;
           before = O.written out.old;
@@ -61,14 +50,55 @@ fn try_run<L: Library, O: Sink>(
           faults_after = O.faults out.new;
         }) (status_of result) }
 {
-    let names = run_names(words)?;
-    let files = fetch_run(alloc, lib, &names)?;
-    let mut input = judge(alloc, files)?;
-    run_in_order(&input.nest, &input.arrays, &mut input.values);
-    let text = arrays_text(alloc, &input.nest, &input.values)?;
-    match put_all(out, text.as_slice()) {
-        Ok(()) => Ok(()),
-        Err(_) => Err(Status::WriteFault),
+    let files = fetch_run(alloc, lib, words)?;
+    let text = run_text(alloc, files)?;
+    put_text(out, text.as_slice())
+}
+
+/// Puts the canonical text of the loop that the words name.
+fn try_show<L: Library, O: Sink>(
+    alloc: Global,
+    words: &[String],
+    lib: &mut L,
+    out: &mut O,
+) -> Result<(), Status>
+    requires built { IsShow (texts words.now) }
+    ensures { (files : List (List ℕ)) × AreFilesOf (L.held lib.old) (texts words.now) files
+        × Ends (texts words.now) files (record {
+          reads_before = L.faults lib.old;
+          reads_after = L.faults lib.new;
+          before = O.written out.old;
+          after = O.written out.new;
+          faults_before = O.faults out.old;
+          faults_after = O.faults out.new;
+        }) (status_of result) }
+{
+    let file = fetch_loop(alloc, lib, words)?;
+    let text = show_text(alloc, file)?;
+    put_text(out, text.as_bytes())
+}
+
+/// Does what the words ask for, or says why not.
+fn try_command<L: Library, O: Sink>(
+    alloc: Global,
+    words: &[String],
+    lib: &mut L,
+    out: &mut O,
+) -> Result<(), Status>
+    requires few { length words.now < 2 ^ 32 }
+    ensures { (files : List (List ℕ)) × AreFilesOf (L.held lib.old) (texts words.now) files
+        × Ends (texts words.now) files (record {
+          reads_before = L.faults lib.old;
+          reads_after = L.faults lib.new;
+          before = O.written out.old;
+          after = O.written out.new;
+          faults_before = O.faults out.old;
+          faults_after = O.faults out.new;
+        }) (status_of result) }
+{
+    match built_command(words)? {
+        Command::Run => try_run(alloc, words, lib, out),
+        Command::Show => try_show(alloc, words, lib, out),
     }
 }
 
@@ -81,30 +111,77 @@ fn ended(outcome: Result<(), Status>) -> Status
     }
 }
 
-/// Serves every command but `run` and `demo`. None of them is built yet: the commands have the
-/// status `NotBuilt` with word 0, and all other words `Usage` with word 0. It reads and puts nothing
-/// but the fault line, and always returns.
-pub fn quiet_main<R: Threads, L: Library, O: Sink, E: Sink>(
-    _rt: &R,
+fn begins(words: &[String], wanted: &str) -> bool
+    ensures { IsTrue result ↔ Begins (texts words.now) wanted.now }
+{
+    match word_at(words, 0) {
+        Some(first) => first == wanted,
+        None => false,
+    }
+}
+
+/// Does what the words ask for, and says in one line why it didn't.
+fn serve<L: Library, O: Sink, E: Sink>(
+    alloc: Global,
     words: &[String],
     lib: &mut L,
     out: &mut O,
     err: &mut E,
 ) -> Status
-    ensures unbuilt { (result ≡ Status.NotBuilt 0) ↔ NamesQuiet (texts words.now) }
-    ensures usage { (result ≡ Status.Usage 0) ↔ (¬ NamesQuiet (texts words.now)) }
-    ensures refused { (result ≡ Status.NotBuilt 0) ⊎ (result ≡ Status.Usage 0) }
-    ensures reads_nothing { lib.new ≡ lib.old }
-    ensures puts_nothing { out.new ≡ out.old }
+    requires { length words.now < 2 ^ 32 }
+    ensures answer { IsAnswer (record {
+      words = texts words.now;
+      held = L.held lib.old;
+      changes = record {
+        reads_before = L.faults lib.old;
+        reads_after = L.faults lib.new;
+        before = O.written out.old;
+        after = O.written out.new;
+        faults_before = O.faults out.old;
+        faults_after = O.faults out.new;
+      };
+      status = result;
+    }) }
     ensures says { SaysWhy result (E.written err.old) (E.written err.new) (E.faults err.old) (E.faults err.new) }
+    ensures silent { result ≡ Status.Done → E.written err.new ≡ E.written err.old }
 {
-    let status = if is_quiet_command(words) {
-        Status::NotBuilt { word: 0 }
-    } else {
-        Status::Usage { word: 0 }
-    };
+    let status = ended(try_command(alloc, words, lib, out));
     report(err, status);
     status
+}
+
+/// Serves every command but `run` and `demo`, which it refuses as `Usage` with word 0. It reads files,
+/// puts the text of the command, and always returns.
+pub fn quiet_main<R: AllocGlobal + Threads, L: Library, O: Sink, E: Sink>(
+    rt: &R,
+    words: &[String],
+    lib: &mut L,
+    out: &mut O,
+    err: &mut E,
+) -> Status
+    requires { length words.now < 2 ^ 32 }
+    ensures others { IsOthers (texts words.now) → (result ≡ Status.Usage 0) × (lib.new ≡ lib.old) × (out.new ≡ out.old) }
+    ensures answer { ¬ IsOthers (texts words.now) → IsAnswer (record {
+      words = texts words.now;
+      held = L.held lib.old;
+      changes = record {
+        reads_before = L.faults lib.old;
+        reads_after = L.faults lib.new;
+        before = O.written out.old;
+        after = O.written out.new;
+        faults_before = O.faults out.old;
+        faults_after = O.faults out.new;
+      };
+      status = result;
+    }) }
+    ensures says { SaysWhy result (E.written err.old) (E.written err.new) (E.faults err.old) (E.faults err.new) }
+    ensures silent { result ≡ Status.Done → E.written err.new ≡ E.written err.old }
+{
+    if begins(words, "run") || begins(words, "demo") {
+        report(err, Status::Usage { word: 0 });
+        return Status::Usage { word: 0 };
+    }
+    serve(rt.alloc(), words, lib, out, err)
 }
 
 /// Does all that the program does, but for the real files and streams: it serves `run` and `demo`
@@ -134,14 +211,8 @@ pub fn wave_main<R: AllocGlobal + Threads + Wait, L: Library, O: Sink, E: Sink, 
     ensures says { SaysWhy result (E.written err.old) (E.written err.new) (E.faults err.old) (E.faults err.new) }
     ensures silent { result ≡ Status.Done → E.written err.new ≡ E.written err.old }
 {
-    if is_first_word(words, "run") {
-        let status = ended(try_run(rt.alloc(), words, lib, out));
-        report(err, status);
-        return status;
-    }
-    if is_first_word(words, "demo") {
-        report(err, Status::NotBuilt { word: 0 });
-        return Status::NotBuilt { word: 0 };
+    if begins(words, "run") || begins(words, "demo") {
+        return serve(rt.alloc(), words, lib, out, err);
     }
     quiet_main(rt, words, lib, out, err)
 }

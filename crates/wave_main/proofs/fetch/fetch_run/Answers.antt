@@ -1,14 +1,7 @@
-use Rattle.std.proofs.Common.{◌∙◌}
-use Rattle.wave_main.proofs.FileLaws.{of_same_file, three_files}
+use Rattle.wave_main.proofs.FileLaws.{run_fetched}
 use Rattle.wave_main.proofs.fetch.fetch_run.Goals as goal
 
 pub returns-clause-fetched : goal.returns-clause-fetched
 returns-clause-fetched g c =
-    let matrix = c.args.run.now.matrix.now in
-    let vector = c.args.run.now.vector.now in
-    let first_stays = c.fetch_file.ensures.stays in
-    let second_stays = c.fetch_file-2.ensures.stays in
-    three_files (g.L.Library.held c.args.lib.now) c.args.run.now.loop_file.now matrix vector _
-    c.in_ok-loop_file.ensures.file
-    (of_same_file _ _ _ _ (first_stays matrix) c.in_ok-matrix.ensures.file)
-    (of_same_file _ _ _ _ (second_stays vector ∙ first_stays vector) c.in_ok-vector.ensures.file)
+    run_fetched (g.L.Library.held c.args.lib.now) (g.L.Library.held c.fetch_file.new.lib) (g.L.Library.held c.fetch_file-2.new.lib) c.args.words.now c.index-words-1.result c.index-words-2.result c.as_str.result.now c.as_str-2.result.now (record { loop_file = c.in_ok-loop_file.loop_file; matrix = c.in_ok-matrix.matrix; vectors = c.in_ok-vectors.vectors })
+    c.requires.long c.index-words-1.is c.index-words-2.is c.as_str.ensures.value c.as_str-2.ensures.value c.fetch_file.ensures.stays c.fetch_file-2.ensures.stays c.in_ok-loop_file.ensures.file c.in_ok-matrix.ensures.file c.in_ok-vectors.ensures.files

@@ -1,25 +1,12 @@
-use Rattle.std.proofs.Common.{◌∙◌, refl, ap, subst}
-use Rattle.wave_io.specs.Written.{grown, TookPart}
-use Rattle.wave_main.specs.Run.{Changes}
-use Rattle.wave_main.specs.Words.{texts}
-use Rattle.wave_main.proofs.EndLaws.{some_files, named_files, words_end, fetch_end, judge_end, text_is, handed_on, ends_with, input_nest}
-use Rattle.wave_main.proofs.ForwardLaws.{is_shallow, has_few_arrays}
+use Rattle.std.proofs.Common.{◌≡◌, [], ◌∷◌, ℕ, List, inl, refl, ◌∙◌, subst, sym, arith}
+use Rattle.wave_words.specs.Words.{texts}
+use Rattle.wave_main.specs.Answers.{Changes}
+use Rattle.wave_main.specs.Files.{word_of}
+use Rattle.wave_main.specs.Run.{RunPrints, vector_files}
+use Rattle.wave_main.proofs.EndLaws.{run_fetch_end, run_refused_end, put_ends, handed_on, ends_with}
+use Rattle.wave_main.proofs.FileLaws.{some_files, run_files, few_vectors}
+use Rattle.wave_main.proofs.WordLaws.{run_length}
 use Rattle.wave_main.proofs.top.try_run.Goals as goal
-
-pub returns-in_err-names : goal.returns-in_err-names
-returns-in_err-names g c =
-    let ws = texts c.args.words.now in
-    let some = some_files (g.L.Library.held c.args.lib.now) ws in
-    let changes : Changes = record {
-      reads_before = g.L.Library.faults c.args.lib.now;
-      reads_after = g.L.Library.faults c.args.lib.now;
-      before = g.O.Sink.written c.args.out.now;
-      after = g.O.Sink.written c.args.out.now;
-      faults_before = g.O.Sink.faults c.args.out.now;
-      faults_after = g.O.Sink.faults c.args.out.now;
-    } in
-    ends_with _ ws some.0 changes _ c.in_err-names.field-0.0 (handed_on _ _ c.from_residual.ensures.1) some.1
-    (words_end ws some.0 changes _ refl c.in_err-names.ensures.refused)
 
 pub returns-in_err-files : goal.returns-in_err-files
 returns-in_err-files g c =
@@ -33,14 +20,13 @@ returns-in_err-files g c =
       faults_before = g.O.Sink.faults c.args.out.now;
       faults_after = g.O.Sink.faults c.args.out.now;
     } in
-    ends_with _ ws some.0 changes _ c.in_err-files.field-0.0 (handed_on _ _ c.from_residual-in_err-files.ensures.1) some.1
-    (fetch_end ws _ _ _ some.0 changes _ c.in_ok-names.ensures.built c.in_ok-names.ensures.names refl c.in_err-files.ensures.fault)
+    ends_with _ ws some.0 changes _ c.in_err-files.field-0.0 (handed_on _ _ c.from_residual.ensures.1) some.1
+    (run_fetch_end ws some.0 changes _ c.requires.built refl c.in_err-files.ensures.fault)
 
-pub returns-in_err-input : goal.returns-in_err-input
-returns-in_err-input g c =
+pub returns-in_err-text : goal.returns-in_err-text
+returns-in_err-text g c =
     let ws = texts c.args.words.now in
     let got = c.in_ok-files.ensures.fetched in
-    let are = named_files (g.L.Library.held c.args.lib.now) ws _ _ _ got.0 c.in_ok-names.ensures.names got.1 in
     let changes : Changes = record {
       reads_before = g.L.Library.faults c.args.lib.now;
       reads_after = g.L.Library.faults c.fetch_run.new.lib;
@@ -49,33 +35,30 @@ returns-in_err-input g c =
       faults_before = g.O.Sink.faults c.args.out.now;
       faults_after = g.O.Sink.faults c.args.out.now;
     } in
-    ends_with _ ws got.0 changes _ c.in_err-input.field-0.0 (handed_on _ _ c.from_residual-in_err-input.ensures.1) are
-    (judge_end ws got.0 changes _ c.in_ok-names.ensures.built refl (c.in_err-input.ensures got.0 got.2))
-
-pub run_in_order-requires : goal.run_in_order-requires
-run_in_order-requires g c =
-    let got = c.in_ok-files.ensures.fetched in
-    is_shallow _ (input_nest got.0 c.in_ok-input.input (c.in_ok-input.ensures got.0 got.2))
-
-pub arrays_text-requires : goal.arrays_text-requires
-arrays_text-requires g c =
-    let got = c.in_ok-files.ensures.fetched in
-    has_few_arrays _ (input_nest got.0 c.in_ok-input.input (c.in_ok-input.ensures got.0 got.2))
-
-pub returns-in-Ok : goal.returns-in-Ok
-returns-in-Ok g c =
-    let ws = texts c.args.words.now in
-    let got = c.in_ok-files.ensures.fetched in
-    let are = named_files (g.L.Library.held c.args.lib.now) ws _ _ _ got.0 c.in_ok-names.ensures.names got.1 in
-    let is = c.in_ok-input.ensures got.0 got.2 in
-    let text = c.as_slice.ensures.value ∙ text_is c.in_ok-input.input _ _ c.run_in_order.ensures c.in_ok-text.ensures in
-    (got.0, are, (c.in_ok-names.ensures.built, (c.in_ok-input.input, is, c.in-Ok.ensures.whole ∙ ap (grown (g.O.Sink.written c.args.out.now)) text)))
+    ends_with _ ws got.0 changes _ c.in_err-text.field-0.0 (handed_on _ _ c.from_residual-in_err-text.ensures.1) (run_files _ ws got.0 _ c.requires.built got.1)
+    (run_refused_end ws got.0 changes _ c.requires.built refl (c.in_err-text.ensures _ _ _ got.1.loop_is got.1.matrix_is got.1.vectors_are))
 
 pub returns : goal.returns
 returns g c =
     let ws = texts c.args.words.now in
     let got = c.in_ok-files.ensures.fetched in
-    let are = named_files (g.L.Library.held c.args.lib.now) ws _ _ _ got.0 c.in_ok-names.ensures.names got.1 in
-    let is = c.in_ok-input.ensures got.0 got.2 in
-    let text = c.as_slice.ensures.value ∙ text_is c.in_ok-input.input _ _ c.run_in_order.ensures c.in_ok-text.ensures in
-    (got.0, are, (c.in_ok-names.ensures.built, c.in-Err.ensures.failed, (c.in_ok-input.input, is, subst (TookPart (g.O.Sink.written c.args.out.now) (g.O.Sink.written c.put_all.new.sink)) text c.in-Err.ensures.part)))
+    let printed = c.in_ok-text.ensures _ _ _ got.1.loop_is got.1.matrix_is got.1.vectors_are in
+    let P : List ℕ → Type 0 = λ text. RunPrints (word_of got.0 1) (word_of got.0 2) (vector_files got.0) text in
+    let changes : Changes = record {
+      reads_before = g.L.Library.faults c.args.lib.now;
+      reads_after = g.L.Library.faults c.fetch_run.new.lib;
+      before = g.O.Sink.written c.args.out.now;
+      after = g.O.Sink.written c.put_text.new.out;
+      faults_before = g.O.Sink.faults c.args.out.now;
+      faults_after = g.O.Sink.faults c.put_text.new.out;
+    } in (
+      got.0,
+      run_files _ ws got.0 _ c.requires.built got.1,
+      put_ends ws got.0 changes _ c.put_text.result (inl (c.requires.built, subst P (sym c.as_slice.ensures.value) printed)) c.put_text.ensures.whole c.put_text.ensures.part,
+    )
+
+pub run_text-requires : goal.run_text-requires
+run_text-requires g c =
+    let got = c.in_ok-files.ensures.fetched in
+    let len = few_vectors _ c.args.words.now got.0 _ (run_length (texts c.args.words.now) c.requires.built.run) got.1 in
+    omega (arith, len, c.requires.few)

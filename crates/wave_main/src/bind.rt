@@ -1,0 +1,55 @@
+// The arrays of a run.
+ghost use Rattle.std.specs.Prelude.{◌≡◌, ◌⊎◌, ◌+◌, ◌<◌, ◌≤◌, ◌^◌, ℕ, List, None, Some, MatchResult, length};
+ghost use Rattle.std.specs.List.{All};
+ghost use Rattle.loop_core.specs.Sizes.{sizes};
+ghost use Rattle.array_bind.specs.Lists.{bound_of};
+ghost use Rattle.array_bind.specs.Shape.{file_of};
+ghost use Rattle.wave_main.specs.Run.{shape_status, binding_fault};
+
+use crate::status::{ShapeKind, Status};
+use array_bind::bind::{Bound, bind};
+use array_bind::shape::ShapeRefusal;
+use loop_core::nest::Nest;
+use loop_core::words::Words;
+use mtx_read::triples::Triples;
+use std::alloc::Global;
+
+/// File k is named by word k + 4.
+fn shape_status(refusal: ShapeRefusal) -> Status
+    requires { file_of refusal + 4 < 2 ^ 32 }
+    ensures { result ≡ shape_status refusal }
+{
+    match refusal {
+        ShapeRefusal::NotSquare { rows, columns } => {
+            Status::Shape(ShapeKind::NotSquare { rows, columns })
+        }
+        ShapeRefusal::Files { have, want } => Status::Shape(ShapeKind::Files { have, want }),
+        ShapeRefusal::Length { file, have, want } => Status::Shape(ShapeKind::Length {
+            word: file + 4,
+            have,
+            want,
+        }),
+        ShapeRefusal::Memory => Status::Memory,
+    }
+}
+
+/// The arrays of a loop over a matrix and vectors.
+pub fn bound(
+    alloc: Global,
+    nest: &Nest,
+    matrix: Triples,
+    vectors: Vec<Words>,
+) -> Result<Bound, Status>
+    requires few_arrays { length (sizes nest.now.decls) ≤ 64 }
+    requires few { length matrix.entries ≤ 2 ^ 24 }
+    requires inside { All (λ e. (e.0 < matrix.rows) × (e.1 < matrix.columns)) matrix.entries }
+    requires few_files { length vectors.items + 4 < 2 ^ 32 }
+    ensures { MatchResult result
+        (λ b. (binding_fault nest.now.decls (matrix.rows, matrix.columns, matrix.entries) vectors.items ≡ None) × (b ≡ bound_of nest.now.decls matrix.rows matrix.entries vectors.items))
+        (λ status. (status ≡ Status.Memory) ⊎ (binding_fault nest.now.decls (matrix.rows, matrix.columns, matrix.entries) vectors.items ≡ Some status)) }
+{
+    match bind(alloc, nest, matrix, vectors) {
+        Ok(bound) => Ok(bound),
+        Err(refusal) => Err(shape_status(refusal)),
+    }
+}

@@ -1,0 +1,52 @@
+// The loop of a file.
+ghost use Rattle.std.specs.Prelude.{◌≡◌, ◌⊎◌, ◌≤◌, ℕ, List, None, Some, MatchResult, IfOk, length};
+ghost use Rattle.loop_core.specs.Depth.{body_depth};
+ghost use Rattle.loop_core.specs.Sizes.{sizes};
+ghost use Rattle.loop_syntax.specs.PrintNames.{HasNames};
+ghost use Rattle.wave_main.specs.Files.{IsFetched};
+ghost use Rattle.wave_main.specs.Loops.{loop_status, loop_fault, IsLoop};
+
+use crate::status::Status;
+use loop_core::nest::Nest;
+use loop_syntax::read::read;
+use loop_syntax::refusal::{LimitKind, LoopRefusal};
+use std::alloc::Global;
+
+fn loop_status(refusal: LoopRefusal) -> Status
+    ensures { result ≡ loop_status refusal }
+{
+    match refusal {
+        LoopRefusal::Text { line } => Status::LoopText { line },
+        LoopRefusal::Name { line, kind } => Status::LoopName { line, kind },
+        LoopRefusal::Limit { line, kind } => Status::LoopLimit { line, kind },
+        LoopRefusal::Memory => Status::Memory,
+    }
+}
+
+fn too_long() -> Status
+    ensures { result ≡ Status.LoopLimit 0 LimitKind.Length }
+{
+    Status::LoopLimit {
+        line: 0,
+        kind: LimitKind::Length,
+    }
+}
+
+/// The loop of a file that was fetched; a file that is too long passes a limit.
+pub fn read_loop(alloc: Global, file: Option<Vec<u8>>) -> Result<Nest, Status>
+    ensures answer { (bytes : List ℕ) → IsFetched 65536 bytes file → MatchResult result (IsLoop bytes) (λ status. (status ≡ Status.Memory) ⊎ (loop_fault bytes ≡ Some status)) }
+    ensures names { IfOk result HasNames }
+    ensures shallow { IfOk result (λ nest. body_depth nest.body ≤ 5) }
+    ensures few { IfOk result (λ nest. length (sizes nest.decls) ≤ 64) }
+{
+    let Some(bytes) = file else {
+        return Err(too_long());
+    };
+    if bytes.len() > 65536 {
+        return Err(too_long());
+    }
+    match read(alloc, bytes.as_slice()) {
+        Ok(nest) => Ok(nest),
+        Err(refusal) => Err(loop_status(refusal)),
+    }
+}
