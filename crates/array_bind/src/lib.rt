@@ -5,3 +5,5 @@ pub mod bind;
 pub mod files;
 pub mod lists;
 pub mod shape;
+#[cfg(test)]
+mod tests;
