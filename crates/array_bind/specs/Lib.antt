@@ -1,3 +1,4 @@
 pub mod Matrix
 pub mod Shape
 pub mod Lists
+pub mod Lengths

@@ -3,6 +3,7 @@
 
 pub mod bind;
 pub mod files;
+pub mod laws;
 pub mod lists;
 pub mod shape;
 #[cfg(test)]
