@@ -5,3 +5,12 @@ pub mod TokenLaws
 pub mod LineLaws
 pub mod FitLaws
 pub mod PlainLaws
+mod ShownTexts
+mod ShownWords
+mod ShownTerms
+mod ShownValues
+mod ShownLines
+mod ShowableWords
+mod ShowableTokens
+mod ShowableLines
+pub mod ShownLaws

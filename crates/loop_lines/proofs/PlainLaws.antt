@@ -1,6 +1,5 @@
 -- The names of a line consist of letters, digits and `_`.
-use Rattle.std.proofs.Common.{◌≡◌, ℕ, Bool, true, false, ◌&&◌, if◌then◌else◌, ◌==◌, nat_lt, nat_le, length, List, [], ◌∷◌, Option, Some, None, refl, sym, subst, ◌∙◌}
-use Rattle.std.specs.List.{list_all}
+use Rattle.std.proofs.Common.{◌≡◌, ℕ, Bool, true, false, ◌&&◌, if◌then◌else◌, ◌==◌, nat_lt, nat_le, length, List, [], ◌∷◌, Option, Some, None, refl, subst}
 use Rattle.std.specs.Prelude.{codes, ◌^◌}
 use Rattle.text_base.specs.Numbers.{natural}
 use Rattle.std.specs.Str.{bytes_eq}
@@ -8,9 +7,7 @@ use Rattle.text_base.specs.Lines.{trimmed}
 use Rattle.text_base.specs.Words.{is_blank}
 use Rattle.loop_core.specs.Names.{is_name_byte, is_digit, begins_with_letter}
 use Rattle.loop_lines.specs.declared.line.Line.{Line}
-use Rattle.loop_lines.specs.declared.line.Line.TheVariants as lines
 use Rattle.loop_lines.specs.declared.token.Keyword.{Keyword}
-use Rattle.loop_lines.specs.declared.token.Keyword.TheVariants as keys
 use Rattle.loop_lines.specs.declared.token.Token.{Token}
 use Rattle.loop_lines.specs.declared.token.Token.TheVariants as tokens
 use Rattle.loop_lines.specs.Plain.{is_plain, IsPlainLine}

@@ -9,3 +9,6 @@ pub mod Lines
 pub mod LineReading
 pub mod Fitting
 pub mod Plain
+pub mod Shown
+pub mod Showable
+pub mod ReadBack

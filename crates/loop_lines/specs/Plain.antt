@@ -1,5 +1,5 @@
 -- Names that consist of letters, digits and `_`.
-use Rattle.std.specs.Prelude.{◌≡◌, ℕ, Bool, true, List, [], ◌∷◌}
+use Rattle.std.specs.Prelude.{◌≡◌, ℕ, Bool, true, List}
 use Rattle.std.specs.List.{list_all}
 use Rattle.loop_core.specs.Names.{is_name_byte}
 use Rattle.loop_lines.specs.declared.line.Line.{Line}

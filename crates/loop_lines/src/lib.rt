@@ -3,6 +3,7 @@
 
 pub mod expr;
 pub mod forms;
+pub mod laws;
 pub mod lexer;
 pub mod line;
 pub mod number;
