@@ -111,3 +111,12 @@ shown_reads_back ls nest read short =
     let same = nest_with (anew ls) (place_zero ls) (numbered ls) nest read.of_text in
     let P : List Numbered → Type 0 = λ all. IsNestOf all (renumbered (anew ls) nest) in
     (lines_back 0 (numbered ls) (are_showable 1 ls), record { accepted = accepted (texts ls) (passes_back ls short (passes ls read.accepted)); of_text = subst P (sym (lines_are ls short)) same })
+
+-- the same of a text that has these lines
+pub text_reads_back : (ls : List (List ℕ)) (nest : Nest) (text : List ℕ) → text ≡ unlines (shown_lines 0 (numbered ls)) → IsRead ls nest → AreShort (lines text)
+    → IsRead (lines text) (renumbered (place (numbered ls)) nest)
+text_reads_back ls nest text is read short =
+    let whole : lines text ≡ texts ls = ap lines is ∙ lines_back 0 (numbered ls) (are_showable 1 ls) in
+    let P : List (List ℕ) → Type 0 = λ all. AreShort all in
+    let Q : List (List ℕ) → Type 0 = λ all. IsRead all (renumbered (anew ls) nest) in
+    subst Q (sym whole) (shown_reads_back ls nest read (subst P whole short)).1
