@@ -112,7 +112,7 @@ few_from written s count (l ∷ ls) b e =
 abbrev past_lines : Bool → Option (ℕ × LimitKind)
 past_lines b = if b then Some (401, Lines) else None
 
-short_of : (count : ℕ) → lines_limit count ≡ None → count ≤ 400
+pub short_of : (count : ℕ) → lines_limit count ≡ None → count ≤ 400
 short_of count e = known (nat_lt 400 count) (λ h. absurd (absent (subst (λ (v : Bool). past_lines v ≡ None) h e))) (λ h. grind (arith, nat_tests, h))
 
 -- a text that passes no limit

@@ -14,3 +14,12 @@ pub mod OneNest
 pub mod ShallowLaws
 pub mod NameLaws
 pub mod ArrayLaws
+pub mod BackText
+pub mod BackFits
+pub mod BackNumbers
+pub mod BackScope
+pub mod BackRules
+pub mod BackTerms
+pub mod BackItems
+pub mod BackNest
+pub mod BackLaws

@@ -21,17 +21,17 @@ refused ls o (refusals.Name line kind) e is = sym e ∙ is
 refused ls o (refusals.Limit line kind) e is = sym e ∙ is
 refused ls o refusals.Memory e is = tt
 
-map_none : {A B : Type 0} (f : A → B) (o : Option A) → option_map f o ≡ None → o ≡ None
+pub map_none : {A B : Type 0} (f : A → B) (o : Option A) → option_map f o ≡ None → o ≡ None
 map_none f None e = refl
 map_none f (Some x) e = absurd cc
 
-abbrev misfits : List (List ℕ) → Option LoopRefusal
+abbrev pub misfits : List (List ℕ) → Option LoopRefusal
 misfits ls = option_map refusals.Text (misfit start 1 ls)
 
-abbrev faults : List (List ℕ) → Option LoopRefusal
+abbrev pub faults : List (List ℕ) → Option LoopRefusal
 faults ls = option_map (λ fault. refusals.Name fault.0 fault.1) (first_fault empty (numbered ls))
 
-abbrev limits : List (List ℕ) → Option LoopRefusal
+abbrev pub limits : List (List ℕ) → Option LoopRefusal
 limits ls = option_map (λ passed. refusals.Limit passed.0 passed.1) (first_limit (length ls) (numbered ls))
 
 pub fits : (ls : List (List ℕ)) → refusal ls ≡ None → AreNested Above (numbered ls)

@@ -67,15 +67,15 @@ ended (places.Heading m) n e = absurd cc
 ended (places.Inside k) n e = absurd cc
 ended places.Behind n e = refl
 
-line_is : (p q : Place) (l : List ℕ) → next_place p l ≡ Some q → moved p (worded (text_line l)) ≡ Some q
+pub line_is : (p q : Place) (l : List ℕ) → next_place p l ≡ Some q → moved p (worded (text_line l)) ≡ Some q
 line_is p q l e =
     let b = bind_some (text_line l) (λ x. moved p x) q e in
     ap (λ (o : Option (Option Line)). moved p (worded o)) b.1 ∙ b.2
 
-abbrev goes : ℕ → List (List ℕ) → Option Place → Option ℕ
+abbrev pub goes : ℕ → List (List ℕ) → Option Place → Option ℕ
 goes n ls next = or_else next (λ q. misfit q (n + 1) ls) (Some n)
 
-went : (n : ℕ) (ls : List (List ℕ)) (o : Option Place) → goes n ls o ≡ None → (q : Place) × (o ≡ Some q) × (misfit q (n + 1) ls ≡ None)
+pub went : (n : ℕ) (ls : List (List ℕ)) (o : Option Place) → goes n ls o ≡ None → (q : Place) × (o ≡ Some q) × (misfit q (n + 1) ls ≡ None)
 went n ls None e = absurd cc
 went n ls (Some q) e = (q, refl, e)
 

@@ -17,3 +17,5 @@ pub mod PrintExprs
 pub mod PrintHeads
 pub mod PrintItems
 pub mod PrintText
+pub mod ShownText
+pub mod Renumbered
