@@ -17,3 +17,4 @@ pub mod PrintExprs
 pub mod PrintHeads
 pub mod PrintItems
 pub mod PrintText
+pub mod ShownText

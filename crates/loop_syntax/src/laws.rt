@@ -1,10 +1,19 @@
 // What holds of the definitions.
-ghost use Rattle.std.specs.Prelude.{◌≡◌, List};
+ghost use Rattle.std.specs.Prelude.{◌≡◌, ℕ, List};
 ghost use Rattle.loop_core.specs.declared.nest.Nest.{Nest};
 ghost use Rattle.loop_syntax.specs.declared.numbered.Numbered.{Numbered};
-ghost use Rattle.loop_syntax.specs.TextNest.{IsNestOf};
+ghost use Rattle.loop_syntax.specs.Numbered.{numbered};
+ghost use Rattle.loop_syntax.specs.PrintText.{nest_text};
+ghost use Rattle.loop_syntax.specs.ShownText.{shown_lines, unlines};
+ghost use Rattle.loop_syntax.specs.TextNest.{IsNestOf, IsRead};
 
 /// Lines have at most one nest.
 pub fn one_nest()
     ensures { (ls : List Numbered) (a b : Nest) → IsNestOf ls a → IsNestOf ls b → a ≡ b }
+{}
+
+/// The canonical text of a nest that was read consists of the canonical texts of the lines that
+/// it was read from.
+pub fn printed_text_is_that_of_its_lines()
+    ensures { (ls : List (List ℕ)) (nest : Nest) → IsRead ls nest → nest_text nest ≡ unlines (shown_lines 0 (numbered ls)) }
 {}
