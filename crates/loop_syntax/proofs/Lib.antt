@@ -14,6 +14,13 @@ pub mod OneNest
 pub mod ShallowLaws
 pub mod NameLaws
 pub mod ArrayLaws
+pub mod ShownNames
+pub mod ShownTrees
+pub mod ShownProps
+pub mod ShownHeads
+pub mod ShownMarks
+pub mod ShownBody
+pub mod ShownNest
 pub mod BackText
 pub mod BackFits
 pub mod BackNumbers

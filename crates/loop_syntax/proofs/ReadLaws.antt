@@ -4,6 +4,7 @@ use Rattle.std.specs.Option.{option_map}
 use Rattle.loop_lines.specs.Words.{either}
 use Rattle.loop_lines.specs.Fitting.{misfit, start}
 use Rattle.loop_syntax.specs.declared.refusal.LimitKind.{LimitKind}
+use Rattle.loop_syntax.specs.declared.refusal.NameKind.{NameKind}
 use Rattle.loop_syntax.specs.declared.refusal.LoopRefusal.{LoopRefusal}
 use Rattle.loop_syntax.specs.declared.refusal.LoopRefusal.TheVariants as refusals
 use Rattle.loop_syntax.specs.Numbered.{numbered}
@@ -44,3 +45,10 @@ is_few ls e =
     let a = either_none (misfits ls) (either (faults ls) (limits ls)) e in
     let b = either_none (faults ls) (limits ls) a.1 in
     few ls (map_none (λ (passed : ℕ × LimitKind). refusals.Limit passed.0 passed.1) (first_limit (length ls) (numbered ls)) b.1)
+
+-- a text that isn't refused breaks no rule on names
+pub faultless : (ls : List (List ℕ)) → refusal ls ≡ None → first_fault empty (numbered ls) ≡ None
+faultless ls e =
+    let a = either_none (misfits ls) (either (faults ls) (limits ls)) e in
+    let b = either_none (faults ls) (limits ls) a.1 in
+    map_none (λ (fault : ℕ × NameKind). refusals.Name fault.0 fault.1) (first_fault empty (numbered ls)) b.0
