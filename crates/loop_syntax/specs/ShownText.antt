@@ -1,5 +1,5 @@
--- The canonical text of lines, and a nest whose lines are numbered anew.
-use Rattle.std.specs.Prelude.{◌≡◌, ◌≤◌, ℕ, zero, suc, nat_le, codes, List, [], ◌∷◌, ◌++◌, length, map}
+-- The canonical texts of the lines of a nest, and the place of a line among them.
+use Rattle.std.specs.Prelude.{◌≤◌, ℕ, zero, suc, nat_le, codes, List, [], ◌∷◌, ◌++◌, length}
 use Rattle.std.specs.List.{filter}
 use Rattle.loop_lines.specs.declared.line.Line.{Line}
 use Rattle.loop_lines.specs.declared.line.Line.TheVariants as lines
