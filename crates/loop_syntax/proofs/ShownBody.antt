@@ -10,7 +10,7 @@ use Rattle.loop_lines.specs.declared.tree.NamedTerm.{NamedTerm}
 use Rattle.loop_lines.specs.declared.tree.NamedExpr.{NamedExpr}
 use Rattle.loop_lines.specs.Reading.{or_else}
 use Rattle.loop_lines.specs.Words.{either}
-use Rattle.loop_lines.specs.Shown.{shown_rel, shown_term, shown_value, shown_entry, shown_line}
+use Rattle.loop_lines.specs.Shown.{shown_rel, shown_term, shown_entry, shown_line}
 use Rattle.loop_lines.specs.Showable.{IsShowable}
 use Rattle.loop_syntax.specs.declared.refusal.NameKind.{NameKind}
 use Rattle.loop_syntax.specs.declared.numbered.Numbered.{Numbered}
@@ -23,11 +23,11 @@ use Rattle.loop_syntax.specs.Resolved.{array_in, term_in, value_in, mark}
 use Rattle.loop_syntax.specs.Nesting.{Mark}
 use Rattle.loop_syntax.specs.Stages.{Stage, Above, Within, Behind, AreNested}
 use Rattle.loop_syntax.specs.TextNest.{gathered}
-use Rattle.loop_syntax.specs.PrintNames.{Block, Repeated, Guarded, array_names}
+use Rattle.loop_syntax.specs.PrintNames.{Block, array_names}
 use Rattle.loop_syntax.specs.PrintTerms.{term_text, entry_text}
 use Rattle.loop_syntax.specs.PrintExprs.{expr_text}
 use Rattle.loop_syntax.specs.PrintItems.{rel_text, span_text, indent, line_text}
-use Rattle.loop_syntax.specs.ShownText.{margin, one_less, blocks_behind, blocks_round, shown_lines, unlines}
+use Rattle.loop_syntax.specs.ShownText.{margin, one_less, shown_lines, unlines}
 use Rattle.loop_syntax.proofs.FewLaws.{Rise, either_none}
 use Rattle.loop_syntax.proofs.ShownNames.{IsArray, Fall, fall_below, fall_outer, Named, named_behind, Knows, knows}
 use Rattle.loop_syntax.proofs.ShownTrees.{entry_is, term_shows, value_shows}

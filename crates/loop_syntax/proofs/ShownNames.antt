@@ -228,47 +228,43 @@ next (suc n) (y ∷ names) x rest e = next n names x rest e
 behind : (n m : ℕ) (names : List (List ℕ)) (x : List ℕ) (rest : List (List ℕ)) → m ≡ suc n → drop n names ≡ x ∷ rest → drop m names ≡ rest
 behind n m names x rest is e = ap (λ (k : ℕ). drop k names) is ∙ next n names x rest e
 
-declared_more : (names : List (List ℕ)) (s : Scope) (name : List ℕ) (meaning : Meaning) (arrays : ℕ) (rest : List (List ℕ)) → AreTold names s.declared → AreNoVariables s.declared
+declared_more : (names : List (List ℕ)) (s : Scope) (name : List ℕ) (meaning : Meaning) (arrays : ℕ) → AreTold names s.declared → AreNoVariables s.declared
     → IsTold names name meaning → IsNoVariable meaning → AreTold names (declared s name meaning arrays).declared × AreNoVariables (declared s name meaning arrays).declared
-declared_more names s name meaning arrays rest told apart is fixed =
+declared_more names s name meaning arrays told apart is fixed =
     let one : List Known = record { name = name; meaning = meaning } ∷ [] in
     (told_both names s.declared one told (is, tt), no_variables_both s.declared one apart (fixed, tt))
 
--- the four arrays of a matrix
-matrix_told : (names : List (List ℕ)) (n : ℕ) (name : List ℕ) (form : Form) (rest : List (List ℕ)) → drop n names ≡ names_of name (kinds.Matrix form) ++ rest
-    → IsTold names name (meanings.Matrix form (parts_from n)) × (drop (n + 4) names ≡ rest)
-matrix_told names n name Csr rest e =
-    let a : List ℕ = name ++ codes ".ptr" in
-    let b : List ℕ = name ++ codes ".col" in
-    let c : List ℕ = name ++ codes ".diag" in
-    let d : List ℕ = name ++ codes ".val" in
-    let f = behind n (n + 1) names a (b ∷ c ∷ d ∷ rest) (omega arith) e in
-    let g = behind (n + 1) (n + 2) names b (c ∷ d ∷ rest) (omega arith) f in
-    let h = behind (n + 2) (n + 3) names c (d ∷ rest) (omega arith) g in
-    ((here n names a (b ∷ c ∷ d ∷ rest) e, here (n + 1) names b (c ∷ d ∷ rest) f ∙ sym (append_assoc name (codes ".") (codes "col")), here (n + 2) names c (d ∷ rest) g, here (n + 3) names d rest h), behind (n + 3) (n + 4) names d rest (omega arith) h)
-matrix_told names n name Csc rest e =
-    let a : List ℕ = name ++ codes ".ptr" in
-    let b : List ℕ = name ++ codes ".row" in
-    let c : List ℕ = name ++ codes ".diag" in
-    let d : List ℕ = name ++ codes ".val" in
-    let f = behind n (n + 1) names a (b ∷ c ∷ d ∷ rest) (omega arith) e in
-    let g = behind (n + 1) (n + 2) names b (c ∷ d ∷ rest) (omega arith) f in
-    let h = behind (n + 2) (n + 3) names c (d ∷ rest) (omega arith) g in
-    ((here n names a (b ∷ c ∷ d ∷ rest) e, here (n + 1) names b (c ∷ d ∷ rest) f ∙ sym (append_assoc name (codes ".") (codes "row")), here (n + 2) names c (d ∷ rest) g, here (n + 3) names d rest h), behind (n + 3) (n + 4) names d rest (omega arith) h)
+-- the four arrays of a matrix, and those behind them
+abbrev AreFour : List (List ℕ) → ℕ → List ℕ → Form → List (List ℕ) → Type 0
+AreFour names n name form rest = IsTold names name (meanings.Matrix form (parts_from n)) × (drop (n + 4) names ≡ rest)
+
+four_told : (names : List (List ℕ)) (n : ℕ) (name index : List ℕ) (form : Form) (rest : List (List ℕ)) → index ≡ name ++ codes "." ++ index_part form
+    → drop n names ≡ (name ++ codes ".ptr") ∷ index ∷ (name ++ codes ".diag") ∷ (name ++ codes ".val") ∷ rest → AreFour names n name form rest
+four_told names n name index form rest is e =
+    let diag : List ℕ = name ++ codes ".diag" in
+    let val : List ℕ = name ++ codes ".val" in
+    let f = behind n (n + 1) names (name ++ codes ".ptr") (index ∷ diag ∷ val ∷ rest) (omega arith) e in
+    let g = behind (n + 1) (n + 2) names index (diag ∷ val ∷ rest) (omega arith) f in
+    let h = behind (n + 2) (n + 3) names diag (val ∷ rest) (omega arith) g in
+    ((here n names (name ++ codes ".ptr") (index ∷ diag ∷ val ∷ rest) e, here (n + 1) names index (diag ∷ val ∷ rest) f ∙ is, here (n + 2) names diag (val ∷ rest) g, here (n + 3) names val rest h), behind (n + 3) (n + 4) names val rest (omega arith) h)
+
+matrix_told : (names : List (List ℕ)) (n : ℕ) (name : List ℕ) (form : Form) (rest : List (List ℕ)) → drop n names ≡ names_of name (kinds.Matrix form) ++ rest → AreFour names n name form rest
+matrix_told names n name Csr rest e = four_told names n name (name ++ codes ".col") Csr rest (sym (append_assoc name (codes ".") (codes "col"))) e
+matrix_told names n name Csc rest e = four_told names n name (name ++ codes ".row") Csc rest (sym (append_assoc name (codes ".") (codes "row"))) e
 
 pub named_behind : (names : List (List ℕ)) (s : Scope) (n : ℕ) (l : Line) (ls : List Numbered) → Named names s (record { number = n; line = l } ∷ ls) → Named names (scope_behind s n l) ls
 named_behind names s n (lines.Matrix name form) ls h =
     let rest = array_names (decls_from (scope_behind s n (lines.Matrix name form)) ls) in
     let m = matrix_told names s.arrays name form rest h.left in
-    let d = declared_more names s name (meanings.Matrix form (parts_from s.arrays)) 4 rest h.told h.apart m.0 tt in
+    let d = declared_more names s name (meanings.Matrix form (parts_from s.arrays)) 4 h.told h.apart m.0 tt in
     record { left = m.1; told = d.0; apart = d.1 }
 named_behind names s n (lines.Index name size) ls h =
     let rest = array_names (decls_from (scope_behind s n (lines.Index name size)) ls) in
-    let d = declared_more names s name (meanings.Indexes size s.arrays) 1 rest h.told h.apart (here s.arrays names name rest h.left) tt in
+    let d = declared_more names s name (meanings.Indexes size s.arrays) 1 h.told h.apart (here s.arrays names name rest h.left) tt in
     record { left = behind s.arrays (s.arrays + 1) names name rest (omega arith) h.left; told = d.0; apart = d.1 }
 named_behind names s n (lines.Vector name size source) ls h =
     let rest = array_names (decls_from (scope_behind s n (lines.Vector name size source)) ls) in
-    let d = declared_more names s name (meanings.Holds size s.arrays) 1 rest h.told h.apart (here s.arrays names name rest h.left) tt in
+    let d = declared_more names s name (meanings.Holds size s.arrays) 1 h.told h.apart (here s.arrays names name rest h.left) tt in
     record { left = behind s.arrays (s.arrays + 1) names name rest (omega arith) h.left; told = d.0; apart = d.1 }
 named_behind names s n (lines.Prop prop) ls h = record { left = h.left; told = h.told; apart = h.apart }
 named_behind names s n (lines.Loop name) ls h = record { left = h.left; told = h.told; apart = h.apart }

@@ -16,7 +16,7 @@ use Rattle.loop_syntax.specs.Resolved.{prop_in, outer}
 use Rattle.loop_syntax.specs.Nesting.{Mark, Ends, marks}
 use Rattle.loop_syntax.specs.Stages.{Stage, Above, Within, Behind, AreNested}
 use Rattle.loop_syntax.specs.TextNest.{gathered, IsNestOf, IsRead}
-use Rattle.loop_syntax.specs.PrintNames.{Block, Repeated, array_names}
+use Rattle.loop_syntax.specs.PrintNames.{Block, Repeated}
 use Rattle.loop_syntax.specs.PrintHeads.{decl_text, prop_text, heads_text}
 use Rattle.loop_syntax.specs.PrintItems.{body_text}
 use Rattle.loop_syntax.specs.PrintText.{nest_text}
@@ -25,7 +25,7 @@ use Rattle.loop_syntax.proofs.FewLaws.{rises}
 use Rattle.loop_syntax.proofs.ReadLaws.{fits, faultless}
 use Rattle.loop_syntax.proofs.ShownNames.{decls_from, named_first}
 use Rattle.loop_syntax.proofs.ShownProps.{newline, matrix_shows, index_shows, vector_shows, prop_shows}
-use Rattle.loop_syntax.proofs.ShownHeads.{props_from, DeclsFrom, PropsFrom, decls_rise, props_rise, props_sooner, decl_first, prop_first}
+use Rattle.loop_syntax.proofs.ShownHeads.{props_from, decls_rise, props_rise, props_sooner, decl_first, prop_first}
 use Rattle.loop_syntax.proofs.ShownMarks.{marks_text, body_walked}
 use Rattle.loop_syntax.proofs.ShownBody.{AreShowable, Reads, reads_fault, reads_names, reads_next, marks_from, IsInside, body_shown}
 

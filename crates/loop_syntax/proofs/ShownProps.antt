@@ -1,5 +1,5 @@
 -- The lines of declarations and properties show what the lines of the text say.
-use Rattle.std.proofs.Common.{◌≡◌, ℕ, Bool, true, ◌&&◌, codes, List, [], ◌∷◌, ◌++◌, Option, Some, None, refl, sym, ap, subst, ◌∙◌, append_assoc}
+use Rattle.std.proofs.Common.{◌≡◌, ℕ, true, ◌&&◌, codes, List, [], ◌++◌, None, refl, sym, ap, ◌∙◌, append_assoc}
 use Rattle.loop_core.specs.declared.decl.Decl.{Decl}
 use Rattle.loop_core.specs.declared.decl.Form.{Form}
 use Rattle.loop_core.specs.declared.decl.Form.TheVariants.{Csr, Csc}
@@ -8,20 +8,17 @@ use Rattle.loop_core.specs.declared.decl.Size.TheVariants as sizes
 use Rattle.loop_core.specs.declared.decl.Source.{Source}
 use Rattle.loop_core.specs.declared.decl.Source.TheVariants as sources
 use Rattle.loop_core.specs.declared.decl.DeclKind.TheVariants as kinds
-use Rattle.loop_core.specs.IsNest.{same_size}
 use Rattle.loop_lines.specs.declared.line.Line.TheVariants as lines
 use Rattle.loop_lines.specs.declared.line.NamedProp.{NamedProp}
 use Rattle.loop_lines.specs.declared.line.NamedProp.TheVariants as props
 use Rattle.loop_lines.specs.declared.tree.ArrayName.{ArrayName}
 use Rattle.loop_lines.specs.declared.tree.NamedTerm.{NamedTerm}
-use Rattle.loop_lines.specs.Words.{either}
 use Rattle.loop_lines.specs.Shown.{shown_array, shown_term, shown_size, shown_source, shown_prop, shown_line}
 use Rattle.loop_lines.specs.Showable.{is_array, is_showable_bound, is_showable_prop}
-use Rattle.loop_syntax.specs.declared.refusal.NameKind.{NameKind}
 use Rattle.loop_syntax.specs.declared.scope.ArrayUse.{ArrayUse}
 use Rattle.loop_syntax.specs.declared.scope.ArrayUse.TheVariants as uses
 use Rattle.loop_syntax.specs.Scope.{Scope, use_of}
-use Rattle.loop_syntax.specs.NameRules.{index_fault, sized_fault, alike_fault, by_fault, before_fault, prop_fault}
+use Rattle.loop_syntax.specs.NameRules.{index_fault, sized_fault, alike_fault, by_fault, prop_fault}
 use Rattle.loop_syntax.specs.Resolved.{array_in, term_in, prop_in}
 use Rattle.loop_syntax.specs.PrintNames.{Block, array_name}
 use Rattle.loop_syntax.specs.PrintTerms.{term_text}

@@ -1,5 +1,5 @@
 -- Terms and expressions whose names are resolved show the texts of those with names.
-use Rattle.std.proofs.Common.{◌≡◌, ℕ, ◌+◌, ℤ, Bool, true, false, ◌&&◌, nat_lt, codes, List, [], ◌++◌, Option, Some, None, refl, sym, ap, subst, ◌∙◌}
+use Rattle.std.proofs.Common.{◌≡◌, ℕ, ℤ, Bool, true, false, codes, List, ◌++◌, Option, Some, None, refl, sym, ap, subst, ◌∙◌}
 use denote.Hole.Carrier as hole
 use Rattle.wave_base.specs.declared.types.ArrayId.{ArrayId}
 use Rattle.loop_core.specs.declared.decl.Decl.{Decl}
@@ -10,7 +10,7 @@ use Rattle.loop_core.specs.declared.nest.Atom.{Atom}
 use Rattle.loop_core.specs.declared.nest.Atom.TheVariants as atoms
 use Rattle.loop_core.specs.declared.nest.Term.{Term}
 use Rattle.loop_core.specs.declared.nest.Atom.TheOpen.{Atom-F, Term-F}
-use Rattle.loop_core.specs.declared.nest.Atom.TheViews.{roll-Atom, roll-Term}
+use Rattle.loop_core.specs.declared.nest.Atom.TheViews.{roll-Atom}
 use Rattle.loop_core.specs.declared.nest.Atom.TheFolds.{fold-roll-Atom, fold-roll-Term, map-Atom}
 use Rattle.loop_core.specs.declared.nest.Expr.{Expr}
 use Rattle.loop_core.specs.declared.nest.Expr.TheVariants as exprs
@@ -27,8 +27,7 @@ use Rattle.loop_lines.specs.declared.tree.NamedExpr.{NamedExpr}
 use Rattle.loop_lines.specs.declared.tree.NamedExpr.TheOpen.{NamedExpr-F}
 use Rattle.loop_lines.specs.declared.tree.NamedExpr.TheViews.{roll-NamedExpr}
 use Rattle.loop_lines.specs.declared.tree.NamedExpr.TheFolds.{ind-NamedExpr, fold-roll-NamedExpr, map-NamedExpr}
-use Rattle.loop_lines.specs.Words.{either}
-use Rattle.loop_lines.specs.Shown.{shown_array, shown_entry, shown_offset, shown_op, shown_atom_step, shown_term_step, shown_term, shown_value_step, shown_value}
+use Rattle.loop_lines.specs.Shown.{shown_entry, shown_atom_step, shown_term_step, shown_term, shown_value_step, shown_value}
 use Rattle.loop_lines.specs.Showable.{is_shift, bound_step, bound_term_step, is_showable_bound}
 use Rattle.loop_syntax.specs.declared.refusal.NameKind.{NameKind}
 use Rattle.loop_syntax.specs.declared.scope.Meaning.{Meaning}
@@ -38,8 +37,8 @@ use Rattle.loop_syntax.specs.declared.scope.ArrayUse.TheVariants as uses
 use Rattle.loop_syntax.specs.Scope.{Scope, meaning_of, use_of}
 use Rattle.loop_syntax.specs.NameRules.{variable_fault, index_fault, data_fault, atom_fault, term_fault, value_fault, value_step as value_fault_step}
 use Rattle.loop_syntax.specs.Resolved.{loop_line, array_in, variable_in, atom_step as atom_in_step, term_step as term_in_step, term_in, value_step as value_in_step, value_in}
-use Rattle.loop_syntax.specs.PrintNames.{Block, array_name, variable_name}
-use Rattle.loop_syntax.specs.PrintTerms.{number_text, offset_text, entry_text, atom_step, term_step, term_text, atom_text}
+use Rattle.loop_syntax.specs.PrintNames.{variable_name}
+use Rattle.loop_syntax.specs.PrintTerms.{offset_text, entry_text, atom_step, term_step, term_text, atom_text}
 use Rattle.loop_syntax.specs.PrintExprs.{expr_step, expr_text}
 use Rattle.loop_syntax.proofs.FewLaws.{either_none}
 use Rattle.loop_syntax.proofs.PrintAscii.{and_left}
