@@ -1,5 +1,5 @@
 -- The names of a nest of a text consist of letters, digits and `_`.
-use Rattle.std.proofs.Common.{◌≡◌, ℕ, ◌+◌, Bool, true, false, ◌&&◌, List, [], ◌∷◌, ◌++◌, map, Option, Some, None, refl, sym, ap, subst, ◌∙◌, append_assoc}
+use Rattle.std.proofs.Common.{◌≡◌, ℕ, ◌+◌, Bool, true, List, [], ◌∷◌, ◌++◌, map, Option, Some, None, refl, sym, ap, subst, ◌∙◌, append_assoc}
 use Rattle.std.proofs.lemmas.List.{append-nil}
 use Rattle.std.specs.List.{list_all, flat_map}
 use Rattle.std.proofs.lemmas.List.Folds.{list_all-append}
@@ -16,16 +16,15 @@ use Rattle.loop_lines.specs.declared.line.Line.TheVariants as lines
 use Rattle.loop_lines.specs.Fitting.{text_line}
 use Rattle.loop_lines.specs.Plain.{is_plain, IsPlainLine}
 use Rattle.loop_lines.proofs.PlainLaws.{worded_plain}
-use Rattle.loop_syntax.specs.declared.items.Head.{Head}
 use Rattle.loop_syntax.specs.declared.items.Head.TheVariants as heads
 use Rattle.loop_syntax.specs.declared.numbered.Numbered.{Numbered}
 use Rattle.loop_syntax.specs.Numbered.{worded, before, numbered_from, numbered}
 use Rattle.loop_syntax.specs.Scope.{Scope, empty, scope_after}
 use Rattle.loop_syntax.specs.Nesting.{Mark, Opens, Sets, Ends, joined, marks_step, item_marks, marks}
-use Rattle.loop_syntax.specs.PrintNames.{HasNames, nest_names}
+use Rattle.loop_syntax.specs.PrintNames.{HasNames}
 use Rattle.loop_syntax.specs.Resolved.{declaration, mark, outer}
-use Rattle.loop_syntax.specs.TextNest.{gathered, declarations, outer_loops, body_marks, IsNestOf}
-use Rattle.loop_syntax.proofs.PrintAscii.{and_left, and_right, and_both}
+use Rattle.loop_syntax.specs.TextNest.{gathered, IsNestOf}
+use Rattle.loop_syntax.proofs.PrintAscii.{and_left, and_both}
 
 abbrev ArePlain : List Numbered → Type 0
 ArePlain [] = Unit {0}

@@ -1,64 +1,177 @@
--- Names that are found from the innermost block on.
-use Rattle.std.proofs.Common.{ℕ, zero, suc, ◌≡◌, Bool, true, false, List, [], ◌∷◌, ◌++◌, length, take, Option, Some, None, refl, sym, ◌∙◌, ap}
-use Rattle.std.specs.Prelude.{reverse, slice_get}
+-- A scope's table keeps up with its declared names and its open blocks.
+use Rattle.std.proofs.Common.{ℕ, ◌≡◌, ◌+◌, ◌-◌, Bool, true, false, List, [], ◌∷◌, ◌++◌, ◌≤◌, length, Option, Some, None, refl, sym, ◌∙◌, ap, subst, ⊎_elim, arith}
+use Rattle.std.specs.Prelude.{if◌then◌else◌, IsSome, unwrap_or, reverse}
+use Rattle.std.proofs.lemmas.List.{reverse-append, length-reverse, length-map}
+use Rattle.std.specs.Option.{option_map}
+use Rattle.std.specs.Cmp.Lexicographic.{bytes_decides}
+use Rattle.std.specs.HashMap.{HashMap, get}
 use Rattle.std.specs.Str.{bytes_eq}
-use Rattle.std.proofs.lemmas.List.{reverse-append}
+use Rattle.std.proofs.lemmas.Bool.{cases_Bool}
 use Rattle.loop_syntax.specs.declared.scope.Block.{Block}
 use Rattle.loop_syntax.specs.declared.scope.Block.TheVariants.{Repeated, Guarded}
 use Rattle.loop_syntax.specs.declared.scope.Known.{Known}
 use Rattle.loop_syntax.specs.declared.scope.Meaning.{Meaning}
 use Rattle.loop_syntax.specs.declared.scope.Meaning.TheVariants as meanings
+use Rattle.loop_syntax.specs.declared.scope.Opened.{Opened}
+use Rattle.loop_syntax.specs.declared.standing.Key.{Key}
+use Rattle.loop_syntax.specs.declared.standing.Standing.{Standing}
 use Rattle.loop_syntax.specs.Scope.{found, variables}
-
-take_next : {X : Type 0} (xs : List X) (i : ℕ) (x : X) → slice_get xs i ≡ Some x → take (suc i) xs ≡ take i xs ++ x ∷ []
-take_next [] i x e = cc
-take_next (y ∷ xs) zero x e = cc
-take_next (y ∷ xs) (suc i) x e = ap (λ l. y ∷ l) (take_next xs i x e)
-
-pub all_taken : {X : Type 0} (xs : List X) → take (length xs) xs ≡ xs
-all_taken [] = refl
-all_taken (x ∷ xs) = ap (λ l. x ∷ l) (all_taken xs)
-
--- the last of the first blocks, and those before it
-innermost : (blocks : List Block) (left i : ℕ) (b : Block) → left ≡ suc i → slice_get blocks i ≡ Some b → reverse (take left blocks) ≡ b ∷ reverse (take i blocks)
-innermost blocks left i b is e =
-    ap (λ n. reverse (take n blocks)) is ∙ ap reverse (take_next blocks i b e) ∙ reverse-append (take i blocks) (b ∷ [])
-
-pub variable_here : (name own : List ℕ) (line : ℕ) (blocks : List Block) (left i : ℕ) (total : Option Meaning) → left ≡ suc i
-    → slice_get blocks i ≡ Some (Repeated line own) → bytes_eq name own ≡ true
-    → found name (variables (reverse (take left blocks))) ≡ total → Some (meanings.Variable line) ≡ total
-variable_here name own line blocks left i total is e same h =
-    let step : found name (variables (Repeated line own ∷ reverse (take i blocks))) ≡ Some (meanings.Variable line) = rw same refl in
-    sym step ∙ ap (λ l. found name (variables l)) (sym (innermost blocks left i (Repeated line own) is e)) ∙ h
-
-pub variable_further : (name own : List ℕ) (line : ℕ) (blocks : List Block) (left i : ℕ) (total : Option Meaning) → left ≡ suc i
-    → slice_get blocks i ≡ Some (Repeated line own) → bytes_eq name own ≡ false
-    → found name (variables (reverse (take left blocks))) ≡ total → found name (variables (reverse (take i blocks))) ≡ total
-variable_further name own line blocks left i total is e other h =
-    let step : found name (variables (Repeated line own ∷ reverse (take i blocks))) ≡ found name (variables (reverse (take i blocks))) = rw other refl in
-    sym step ∙ ap (λ l. found name (variables l)) (sym (innermost blocks left i (Repeated line own) is e)) ∙ h
-
-pub guard_further : (name : List ℕ) (blocks : List Block) (left i : ℕ) (total : Option Meaning) → left ≡ suc i → slice_get blocks i ≡ Some Guarded
-    → found name (variables (reverse (take left blocks))) ≡ total → found name (variables (reverse (take i blocks))) ≡ total
-guard_further name blocks left i total is e h = ap (λ l. found name (variables l)) (sym (innermost blocks left i Guarded is e)) ∙ h
+use Rattle.loop_syntax.specs.ScopeFields.{innermost, blocks_of, IsKept}
+use Rattle.loop_syntax.specs.Standing.{key, same_key, standing_of, first_meaning, and_declared, with_variable, nothing, own_meaning}
 
 -- ---- a name is sought among the variables, and then among the declared names
 
-abbrev or_found : Option Meaning → Option Meaning → Option Meaning
-or_found (Some m) other = Some m
-or_found None other = other
-
 found_step : (name : List ℕ) (k : Known) (xs ys : List Known) (b : Bool) → bytes_eq name k.name ≡ b
-    → found name (xs ++ ys) ≡ or_found (found name xs) (found name ys) → found name ((k ∷ xs) ++ ys) ≡ or_found (found name (k ∷ xs)) (found name ys)
+    → found name (xs ++ ys) ≡ first_meaning (found name xs) (found name ys) → found name ((k ∷ xs) ++ ys) ≡ first_meaning (found name (k ∷ xs)) (found name ys)
 found_step name k xs ys true e ih = rw e refl
 found_step name k xs ys false e ih = rw e ih
 
-found_both : (name : List ℕ) (xs ys : List Known) → found name (xs ++ ys) ≡ or_found (found name xs) (found name ys)
+found_both : (name : List ℕ) (xs ys : List Known) → found name (xs ++ ys) ≡ first_meaning (found name xs) (found name ys)
 found_both name [] ys = refl
 found_both name (k ∷ xs) ys = found_step name k xs ys (bytes_eq name k.name) refl (found_both name xs ys)
 
-pub found_first : (name : List ℕ) (xs ys : List Known) (m : Meaning) → found name xs ≡ Some m → found name (xs ++ ys) ≡ Some m
-found_first name xs ys m e = found_both name xs ys ∙ ap (λ r. or_found r (found name ys)) e
+found_repeated : (name own : List ℕ) (line : ℕ) (more : List Block) (b : Bool) → bytes_eq name own ≡ b
+    → found name (variables more) ≡ option_map meanings.Variable (innermost name more)
+    → found name (variables (Repeated line own ∷ more)) ≡ option_map meanings.Variable (innermost name (Repeated line own ∷ more))
+found_repeated name own line more true e ih = rw e refl
+found_repeated name own line more false e ih = rw e ih
 
-pub found_second : (name : List ℕ) (xs ys : List Known) → found name xs ≡ None → found name (xs ++ ys) ≡ found name ys
-found_second name xs ys e = found_both name xs ys ∙ ap (λ r. or_found r (found name ys)) e
+found_variable : (name : List ℕ) (blocks : List Block) → found name (variables blocks) ≡ option_map meanings.Variable (innermost name blocks)
+found_variable name [] = refl
+found_variable name (Repeated line own ∷ more) = found_repeated name own line more (bytes_eq name own) refl (found_variable name more)
+found_variable name (Guarded ∷ more) = found_variable name more
+
+at_name : (name other : List ℕ) (P : Type 0) → (bytes_eq other name ≡ true → P) → (bytes_eq other name ≡ false → P) → P
+at_name name other P same apart = ⊎_elim same apart (cases_Bool (bytes_eq other name))
+
+module _ {S : Type 0} where
+  pub meaning_kept : (table : HashMap Key Standing S) (declared : List Known) (blocks : List Opened) (loops : ℕ) (name : List ℕ) → IsKept table declared blocks loops
+      → own_meaning (standing_of table name) ≡ found name (variables (blocks_of blocks) ++ declared)
+  meaning_kept table declared blocks loops name kept =
+      ap (λ v. first_meaning (option_map meanings.Variable v) (standing_of table name).declared) (kept.variable name)
+      ∙ ap (λ d. first_meaning (option_map meanings.Variable (innermost name (blocks_of blocks))) d) (kept.known name)
+      ∙ ap (λ v. first_meaning v (found name declared)) (sym (found_variable name (blocks_of blocks)))
+      ∙ sym (found_both name (variables (blocks_of blocks)) declared)
+
+  -- ---- what a change of the table leaves
+
+  -- what a table says of each name after a change at one name
+  abbrev pub Changed : HashMap Key Standing S → HashMap Key Standing S → List ℕ → (Standing → Standing) → Type 0
+  Changed table after name change = (other : List ℕ) → standing_of after other ≡ (if bytes_eq other name then change (standing_of table other) else standing_of table other)
+
+  here : (table after : HashMap Key Standing S) (name other : List ℕ) (change : Standing → Standing) → Changed table after name change
+      → bytes_eq other name ≡ true → standing_of after other ≡ change (standing_of table other)
+  here table after name other change changed e = changed other ∙ rw e refl
+
+  elsewhere : (table after : HashMap Key Standing S) (name other : List ℕ) (change : Standing → Standing) → Changed table after name change
+      → bytes_eq other name ≡ false → standing_of after other ≡ standing_of table other
+  elsewhere table after name other change changed e = changed other ∙ rw e refl
+
+  pub noted_kept : (table after : HashMap Key Standing S) (declared : List Known) (blocks : List Opened) (loops : ℕ)
+      → ((other : List ℕ) → standing_of after other ≡ standing_of table other) → IsKept table declared blocks loops → IsKept after declared blocks loops
+  noted_kept table after declared blocks loops same kept = record {
+    known = λ name. ap (λ s. s.declared) (same name) ∙ kept.known name;
+    variable = λ name. ap (λ s. s.variable) (same name) ∙ kept.variable name;
+    outer = kept.outer;
+    counted = kept.counted;
+  }
+
+  pub declared_kept : (table after : HashMap Key Standing S) (declared : List Known) (blocks : List Opened) (loops : ℕ) (name : List ℕ) (stands : Meaning)
+      → Changed table after name (λ own. and_declared own stands) → IsKept table declared blocks loops
+      → IsKept after (declared ++ record { name = name; meaning = stands } ∷ []) blocks loops
+  declared_kept table after declared blocks loops name stands changed kept = record {
+    known = λ other.
+        let both : found other (declared ++ record { name = name; meaning = stands } ∷ []) ≡ first_meaning (found other declared) (found other (record { name = name; meaning = stands } ∷ [])) = found_both other declared (record { name = name; meaning = stands } ∷ []) in
+        at_name name other ((standing_of after other).declared ≡ found other (declared ++ record { name = name; meaning = stands } ∷ []))
+        (λ e. ap (λ s. s.declared) (here table after name other (λ own. and_declared own stands) changed e) ∙ ap (λ d. first_meaning d (Some stands)) (kept.known other) ∙ sym (both ∙ ap (λ b. first_meaning (found other declared) (if b then Some stands else None)) e))
+        (λ e. ap (λ s. s.declared) (elsewhere table after name other (λ own. and_declared own stands) changed e) ∙ kept.known other ∙ sym (both ∙ ap (λ b. first_meaning (found other declared) (if b then Some stands else None)) e ∙ first_alone (found other declared)));
+    variable = λ other. at_name name other ((standing_of after other).variable ≡ innermost other (blocks_of blocks))
+        (λ e. ap (λ s. s.variable) (here table after name other (λ own. and_declared own stands) changed e) ∙ kept.variable other)
+        (λ e. ap (λ s. s.variable) (elsewhere table after name other (λ own. and_declared own stands) changed e) ∙ kept.variable other);
+    outer = kept.outer;
+    counted = kept.counted;
+  }
+    where
+      first_alone : (m : Option Meaning) → first_meaning m None ≡ m
+      first_alone None = refl
+      first_alone (Some m) = refl
+
+  pub guard_kept : (table : HashMap Key Standing S) (declared : List Known) (blocks : List Opened) (loops : ℕ) (outer : Option ℕ)
+      → IsKept table declared blocks loops → IsKept table declared (record { block = Guarded; outer = outer } ∷ blocks) loops
+  guard_kept table declared blocks loops outer kept = record { known = kept.known; variable = kept.variable; outer = (tt, kept.outer); counted = kept.counted }
+
+  pub guard_closed : (table : HashMap Key Standing S) (declared : List Known) (blocks : List Opened) (loops : ℕ) (outer : Option ℕ)
+      → IsKept table declared (record { block = Guarded; outer = outer } ∷ blocks) loops → IsKept table declared blocks loops
+  guard_closed table declared blocks loops outer kept = record { known = kept.known; variable = kept.variable; outer = kept.outer.1; counted = kept.counted }
+
+  pub loop_kept : (table after : HashMap Key Standing S) (declared : List Known) (blocks : List Opened) (loops : ℕ) (name : List ℕ) (line : ℕ) (outer : Option ℕ)
+      → outer ≡ (standing_of table name).variable → Changed table after name (λ own. with_variable own (Some line)) → IsKept table declared blocks loops
+      → IsKept after declared (record { block = Repeated line name; outer = outer } ∷ blocks) (loops + 1)
+  loop_kept table after declared blocks loops name line outer was changed kept = record {
+    known = λ other. at_name name other ((standing_of after other).declared ≡ found other declared)
+        (λ e. ap (λ s. s.declared) (here table after name other (λ own. with_variable own (Some line)) changed e) ∙ kept.known other)
+        (λ e. ap (λ s. s.declared) (elsewhere table after name other (λ own. with_variable own (Some line)) changed e) ∙ kept.known other);
+    variable = λ other. at_name name other ((standing_of after other).variable ≡ innermost other (Repeated line name ∷ blocks_of blocks))
+        (λ e. ap (λ s. s.variable) (here table after name other (λ own. with_variable own (Some line)) changed e) ∙ rw e refl)
+        (λ e. ap (λ s. s.variable) (elsewhere table after name other (λ own. with_variable own (Some line)) changed e) ∙ kept.variable other ∙ rw e refl);
+    outer = (was ∙ kept.variable name, kept.outer);
+    counted = omega (arith, kept.counted);
+  }
+
+  pub loop_closed : (table after : HashMap Key Standing S) (declared : List Known) (blocks : List Opened) (loops : ℕ) (name : List ℕ) (line : ℕ) (outer : Option ℕ)
+      → Changed table after name (λ own. with_variable own outer) → IsKept table declared (record { block = Repeated line name; outer = outer } ∷ blocks) loops
+      → IsKept after declared blocks (loops - 1)
+  loop_closed table after declared blocks loops name line outer changed kept = record {
+    known = λ other. at_name name other ((standing_of after other).declared ≡ found other declared)
+        (λ e. ap (λ s. s.declared) (here table after name other (λ own. with_variable own outer) changed e) ∙ kept.known other)
+        (λ e. ap (λ s. s.declared) (elsewhere table after name other (λ own. with_variable own outer) changed e) ∙ kept.known other);
+    variable = λ other. at_name name other ((standing_of after other).variable ≡ innermost other (blocks_of blocks))
+        (λ e. ap (λ s. s.variable) (here table after name other (λ own. with_variable own outer) changed e) ∙ kept.outer.0 ∙ ap (λ n. innermost n (blocks_of blocks)) (sym ((bytes_decides other name).0 e)))
+        (λ e. ap (λ s. s.variable) (elsewhere table after name other (λ own. with_variable own outer) changed e) ∙ kept.variable other ∙ rw e refl);
+    outer = kept.outer.1;
+    counted = omega (arith, kept.counted);
+  }
+
+  -- the name of an open loop is in the table
+  pub open_present : (table : HashMap Key Standing S) (declared : List Known) (blocks : List Opened) (loops : ℕ) (name : List ℕ) (line : ℕ) (outer : Option ℕ)
+      → IsKept table declared (record { block = Repeated line name; outer = outer } ∷ blocks) loops → IsSome (get same_key table (key name))
+  open_present table declared blocks loops name line outer kept = known_in (get same_key table (key name)) (kept.variable name ∙ rw same refl)
+    where
+      same : bytes_eq name name ≡ true
+      same = (bytes_decides name name).1 refl
+
+      known_in : (own : Option Standing) → (unwrap_or own nothing).variable ≡ Some line → IsSome own
+      known_in None e = cc
+      known_in (Some own) e = refl
+
+-- ---- the last block that was pushed is the innermost
+
+last_first : (blocks rest : List Opened) (last : Opened) (block : Block) → blocks ≡ rest ++ last ∷ [] → last.block ≡ block
+    → reverse blocks ≡ record { block = block; outer = last.outer } ∷ reverse rest
+last_first blocks rest last block popped is =
+    ap reverse popped ∙ reverse-append rest (last ∷ []) ∙ ap (λ b. record { block = b; outer = last.outer } ∷ reverse rest) is
+
+module _ {S : Type 0} where
+  pub popped_present : (table : HashMap Key Standing S) (declared : List Known) (blocks rest : List Opened) (loops : ℕ) (last : Opened) (name : List ℕ) (line : ℕ)
+      → blocks ≡ rest ++ last ∷ [] → last.block ≡ Repeated line name → IsKept table declared (reverse blocks) loops → IsSome (get same_key table (key name))
+  popped_present table declared blocks rest loops last name line popped is kept =
+      open_present table declared (reverse rest) loops name line last.outer (subst (λ bs. IsKept table declared bs loops) (last_first blocks rest last (Repeated line name) popped is) kept)
+
+  pub popped_kept : (table after : HashMap Key Standing S) (declared : List Known) (blocks rest : List Opened) (loops : ℕ) (last : Opened) (name : List ℕ) (line : ℕ)
+      → blocks ≡ rest ++ last ∷ [] → last.block ≡ Repeated line name → Changed table after name (λ own. with_variable own last.outer)
+      → IsKept table declared (reverse blocks) loops → IsKept after declared (reverse rest) (loops - 1)
+  popped_kept table after declared blocks rest loops last name line popped is changed kept =
+      loop_closed table after declared (reverse rest) loops name line last.outer changed (subst (λ bs. IsKept table declared bs loops) (last_first blocks rest last (Repeated line name) popped is) kept)
+
+-- ---- there are no more loops than open blocks
+
+few_variables : (blocks : List Block) → length (variables blocks) ≤ length blocks
+few_variables [] = omega arith
+few_variables (Repeated line name ∷ more) = omega (arith, few_variables more)
+few_variables (Guarded ∷ more) = omega (arith, few_variables more)
+
+pub few_loops : (blocks : List Opened) → length (variables (blocks_of (reverse blocks))) ≤ length blocks
+few_loops blocks =
+    let few : length (variables (blocks_of (reverse blocks))) ≤ length (blocks_of (reverse blocks)) = few_variables (blocks_of (reverse blocks)) in
+    let same : length (blocks_of (reverse blocks)) ≡ length blocks = length-map (reverse blocks) (λ opened. opened.block) ∙ length-reverse blocks in
+    omega (arith, few, same)

@@ -7,6 +7,8 @@ pub mod Flags
 pub mod Narrow
 pub mod Nesting
 pub mod Stages
+pub mod Standing
+pub mod ScopeFields
 pub mod Bodies
 pub mod Gathering
 pub mod TextNest

@@ -1,8 +1,9 @@
 // What names stand for on a line.
 ghost use Rattle.std.specs.Prelude.{◌≡◌, ◌+◌, ◌<◌, ◌≤◌, ◌^◌, ◌++◌, length, reverse, IfOk};
 ghost use Rattle.std.specs.Str.{bytes_eq};
-ghost use Rattle.loop_syntax.specs.Scope.{empty, variables, found, meaning_of, declared, opened, closed, scope_behind, index_part, parts_from, part_use, own_use, dotted_use, use_of};
+ghost use Rattle.loop_syntax.specs.Scope.{empty, variables, meaning_of, declared, opened, closed, scope_behind, index_part, parts_from, part_use, own_use, dotted_use, use_of};
 
+use crate::standing::{Standings, note, own_meaning, put_declared, put_variable, standing_of};
 use loop_core::decl::{Form, Size};
 use loop_core::name::Name;
 use loop_lines::line::Line;
@@ -61,13 +62,24 @@ pub enum ArrayUse {
     Holds(Size, u32),
 }
 
+/// An open block, and for a loop the line of the next loop outside it whose variable has the same
+/// name.
+#[derive(Drop)]
+pub struct Opened {
+    block: Block,
+    outer: Option<u32>,
+}
+
 /// What the lines above a line leave: the declared names, the number of their arrays, and the
-/// open blocks. Contracts see the innermost block first.
+/// open blocks. Contracts see the innermost block first. A name is found in constant expected time,
+/// whatever the number of names and open blocks.
 #[derive(Drop)]
 pub struct Scope {
     declared: Vec<Known>,
     arrays: u32,
-    blocks: Vec<Block>,
+    blocks: Vec<Opened>,
+    loops: usize,
+    table: Standings,
 }
 
 impl Model for Scope {
@@ -76,57 +88,11 @@ impl Model for Scope {
 
     ghost Value = { Names };
 
-    ghost view = { λ s. record { declared = s.declared.items; arrays = s.arrays; blocks = reverse s.blocks.items } };
-}
+    ghost use Rattle.loop_syntax.specs.ScopeFields.{blocks_of, IsKept};
 
-fn is_same(name: &Name, other: &Name) -> bool
-    ensures { result ≡ bytes_eq name.now other.now }
-{
-    name.as_slice() == other.as_slice()
-}
+    ghost view = { λ s. record { declared = s.declared.items; arrays = s.arrays; blocks = blocks_of (reverse s.blocks.items) } };
 
-/// The meaning of a name among names, the first one where it stands twice.
-fn among(known: &[Known], name: &Name) -> Option<Meaning>
-    ensures { result ≡ found name.now known.now }
-{
-    for entry in known {
-        if is_same(name, &entry.name) {
-            return Some(entry.meaning);
-        }
-    }
-    None
-}
-
-/// The meaning of a variable's name, which is that of the innermost loop that has it.
-fn variable(blocks: &[Block], name: &Name) -> Option<Meaning>
-    ensures { result ≡ found name.now (variables (reverse blocks.now)) }
-{
-    let mut left = blocks.len();
-    while left > 0 {
-        left -= 1;
-        match &blocks[left] {
-            Block::Repeated { line, name: own } => {
-                if is_same(name, own) {
-                    return Some(Meaning::Variable(*line));
-                }
-            }
-            Block::Guarded => {}
-        }
-    }
-    None
-}
-
-/// How many of the blocks are loops.
-fn repeated(blocks: &[Block]) -> usize
-    ensures { result ≡ length (variables (reverse blocks.now)) }
-{
-    let mut count = 0;
-    for block in blocks {
-        if let Block::Repeated { .. } = block {
-            count += 1;
-        }
-    }
-    count
+    ghost invariant = { λ s. IsKept s.table s.declared.items (reverse s.blocks.items) s.loops };
 }
 
 fn is_text(word: &[u8], text: &[u8]) -> bool
@@ -204,6 +170,8 @@ impl Scope {
             declared: Vec::new(alloc),
             arrays: 0,
             blocks: Vec::new(alloc),
+            loops: 0,
+            table: Standings::new(alloc),
         }
     }
 
@@ -218,18 +186,14 @@ impl Scope {
     pub fn loops(&self) -> usize
         ensures { result ≡ length (variables self.now.blocks) }
     {
-        repeated(self.blocks.as_slice())
+        self.loops
     }
 
     /// What a name stands for, where it is known.
-    #[tactic(auto, using(crate::proofs::ScopeLaws::found_first, crate::proofs::ScopeLaws::found_second))]
     pub fn meaning_of(&self, name: &Name) -> Option<Meaning>
         ensures { result ≡ meaning_of self.now name.now }
     {
-        match variable(self.blocks.as_slice(), name) {
-            Some(meaning) => Some(meaning),
-            None => among(self.declared.as_slice(), name),
-        }
+        own_meaning(standing_of(&self.table, name))
     }
 
     /// What stands where an array is named.
@@ -246,25 +210,57 @@ impl Scope {
         requires { self.old.arrays + arrays < 2 ^ 32 }
         ensures { IfOk result (λ _. self.new ≡ declared self.old name.now meaning arrays) }
     {
+        note(&mut self.table, name)?;
         self.declared.push(Known {
             name: name.copy(),
             meaning,
         })?;
+        put_declared(&mut self.table, name, meaning);
         self.arrays += arrays;
         Ok(())
     }
 
-    fn open(&mut self, block: Block) -> Result<(), Memory>
-        ensures { IfOk result (λ _. self.new ≡ opened self.old block) }
+    fn open_loop(&mut self, line: u32, name: &Name) -> Result<(), Memory>
+        ensures { IfOk result (λ _. self.new ≡ opened self.old (Block.Repeated line name.now)) }
     {
-        self.blocks.push(block)?;
+        let outer = note(&mut self.table, name)?.variable;
+        self.blocks.push(Opened {
+            block: Block::Repeated {
+                line,
+                name: name.copy(),
+            },
+            outer,
+        })?;
+        put_variable(&mut self.table, name, Some(line));
+        // A length is below 2^64, and there are no more loops than blocks.
+        let _blocks = self.blocks.len();
+        self.loops += 1;
+        Ok(())
+    }
+
+    fn open_guard(&mut self) -> Result<(), Memory>
+        ensures { IfOk result (λ _. self.new ≡ opened self.old Block.Guarded) }
+    {
+        self.blocks.push(Opened {
+            block: Block::Guarded,
+            outer: None,
+        })?;
         Ok(())
     }
 
     fn close(&mut self)
         ensures { self.new ≡ closed self.old }
     {
-        let _innermost = self.blocks.pop();
+        let Some(Opened { block, outer }) = self.blocks.pop() else {
+            return;
+        };
+        match block {
+            Block::Repeated { line: _, name } => {
+                put_variable(&mut self.table, &name, outer);
+                self.loops -= 1;
+            }
+            Block::Guarded => {}
+        }
     }
 
     /// Goes past a line: its declared name is known, and its block is open or closed.
@@ -280,15 +276,9 @@ impl Scope {
             }
             Line::Index(name, size) => self.declare(name, Meaning::Indexes(*size, next), 1),
             Line::Vector(name, size, _) => self.declare(name, Meaning::Holds(*size, next), 1),
-            Line::Loop(name) => self.open(Block::Repeated {
-                line: number,
-                name: name.copy(),
-            }),
-            Line::For(name, _, _) => self.open(Block::Repeated {
-                line: number,
-                name: name.copy(),
-            }),
-            Line::When(_, _, _) => self.open(Block::Guarded),
+            Line::Loop(name) => self.open_loop(number, name),
+            Line::For(name, _, _) => self.open_loop(number, name),
+            Line::When(_, _, _) => self.open_guard(),
             Line::End => {
                 self.close();
                 Ok(())
