@@ -30,6 +30,12 @@ found_both : (name : List ℕ) (xs ys : List Known) → found name (xs ++ ys) �
 found_both name [] ys = refl
 found_both name (k ∷ xs) ys = found_step name k xs ys (bytes_eq name k.name) refl (found_both name xs ys)
 
+pub found_first : (name : List ℕ) (xs ys : List Known) (m : Meaning) → found name xs ≡ Some m → found name (xs ++ ys) ≡ Some m
+found_first name xs ys m e = found_both name xs ys ∙ ap (λ r. first_meaning r (found name ys)) e
+
+pub found_second : (name : List ℕ) (xs ys : List Known) → found name xs ≡ None → found name (xs ++ ys) ≡ found name ys
+found_second name xs ys e = found_both name xs ys ∙ ap (λ r. first_meaning r (found name ys)) e
+
 found_repeated : (name own : List ℕ) (line : ℕ) (more : List Block) (b : Bool) → bytes_eq name own ≡ b
     → found name (variables more) ≡ option_map meanings.Variable (innermost name more)
     → found name (variables (Repeated line own ∷ more)) ≡ option_map meanings.Variable (innermost name (Repeated line own ∷ more))
