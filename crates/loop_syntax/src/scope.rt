@@ -3,7 +3,7 @@ ghost use Rattle.std.specs.Prelude.{◌≡◌, ◌+◌, ◌<◌, ◌≤◌, ◌^
 ghost use Rattle.std.specs.Str.{bytes_eq};
 ghost use Rattle.loop_syntax.specs.Scope.{empty, variables, meaning_of, declared, opened, closed, scope_behind, index_part, parts_from, part_use, own_use, dotted_use, use_of};
 
-use crate::standing::{Standings, note, own_meaning, put_declared, put_variable, standing_of};
+use crate::standing::{Standings, make_room, own_meaning, put_declared, put_variable, standing_of};
 use loop_core::decl::{Form, Size};
 use loop_core::name::Name;
 use loop_lines::line::Line;
@@ -210,7 +210,7 @@ impl Scope {
         requires { self.old.arrays + arrays < 2 ^ 32 }
         ensures { IfOk result (λ _. self.new ≡ declared self.old name.now meaning arrays) }
     {
-        note(&mut self.table, name)?;
+        make_room(&mut self.table, name)?;
         self.declared.push(Known {
             name: name.copy(),
             meaning,
@@ -223,7 +223,7 @@ impl Scope {
     fn open_loop(&mut self, line: u32, name: &Name) -> Result<(), Memory>
         ensures { IfOk result (λ _. self.new ≡ opened self.old (Block.Repeated line name.now)) }
     {
-        let outer = note(&mut self.table, name)?.variable;
+        let outer = make_room(&mut self.table, name)?.variable;
         self.blocks.push(Opened {
             block: Block::Repeated {
                 line,

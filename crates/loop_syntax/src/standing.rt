@@ -87,8 +87,8 @@ pub fn standing_of(table: &Standings, name: &Name) -> Standing
     }
 }
 
-/// Makes room for what a name stands for, which it gives.
-pub fn note(table: &mut Standings, name: &Name) -> Result<Standing, Memory>
+/// What a name stands for in a table, which has room for it from then on.
+pub fn make_room(table: &mut Standings, name: &Name) -> Result<Standing, Memory>
     ensures own { IfOk result (λ own. own ≡ standing_of table.old name.now) }
     ensures present { OnOk result (IsSome (get same_key table.new (key name.now))) }
     ensures same { (other : List ℕ) → standing_of table.new other ≡ standing_of table.old other }
