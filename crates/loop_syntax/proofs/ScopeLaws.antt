@@ -1,12 +1,11 @@
 -- A scope's table keeps up with its declared names and its open blocks.
-use Rattle.std.proofs.Common.{ℕ, ◌≡◌, ◌+◌, ◌-◌, Bool, true, false, List, [], ◌∷◌, ◌++◌, ◌≤◌, length, Option, Some, None, refl, sym, ◌∙◌, ap, subst, ⊎_elim, arith}
+use Rattle.std.proofs.Common.{ℕ, ◌≡◌, ◌-◌, Bool, true, false, List, [], ◌∷◌, ◌++◌, ◌≤◌, length, Option, Some, None, refl, sym, ◌∙◌, ap, subst, arith}
 use Rattle.std.specs.Prelude.{if◌then◌else◌, IsSome, unwrap_or, reverse}
 use Rattle.std.proofs.lemmas.List.{reverse-append, length-reverse, length-map}
 use Rattle.std.specs.Option.{option_map}
 use Rattle.std.specs.Cmp.Lexicographic.{bytes_decides}
 use Rattle.std.specs.HashMap.{HashMap, get}
 use Rattle.std.specs.Str.{bytes_eq}
-use Rattle.std.proofs.lemmas.Bool.{cases_Bool}
 use Rattle.loop_syntax.specs.declared.scope.Block.{Block}
 use Rattle.loop_syntax.specs.declared.scope.Block.TheVariants.{Repeated, Guarded}
 use Rattle.loop_syntax.specs.declared.scope.Known.{Known}
@@ -16,7 +15,7 @@ use Rattle.loop_syntax.specs.declared.scope.Opened.{Opened}
 use Rattle.loop_syntax.specs.declared.standing.Key.{Key}
 use Rattle.loop_syntax.specs.declared.standing.Standing.{Standing}
 use Rattle.loop_syntax.specs.Scope.{found, variables}
-use Rattle.loop_syntax.specs.ScopeFields.{innermost, blocks_of, IsKept}
+use Rattle.loop_syntax.specs.ScopeFields.{innermost, blocks_of, KeepsUp}
 use Rattle.loop_syntax.specs.Standing.{key, same_key, standing_of, first_meaning, and_declared, with_variable, nothing, own_meaning}
 
 -- ---- a name is sought among the variables, and then among the declared names
@@ -46,7 +45,7 @@ first_alone None = refl
 first_alone (Some meaning) = refl
 
 module _ {S : Type 0} where
-  pub meaning_kept : (table : HashMap Key Standing S) (declared : List Known) (blocks : List Opened) (loops : ℕ) (name : List ℕ) → IsKept table declared blocks loops
+  pub meaning_kept : (table : HashMap Key Standing S) (declared : List Known) (blocks : List Opened) (loops : ℕ) (name : List ℕ) → KeepsUp table declared blocks loops
       → own_meaning (standing_of table name) ≡ found name (variables (blocks_of blocks) ++ declared)
   meaning_kept table declared blocks loops name kept =
       ap (λ v. first_meaning (option_map meanings.Variable v) (standing_of table name).declared) (kept.variable name)
@@ -61,7 +60,7 @@ module _ {S : Type 0} where
   Changed table after name change = (other : List ℕ) → standing_of after other ≡ (if bytes_eq other name then change (standing_of table other) else standing_of table other)
 
   pub noted_kept : (table after : HashMap Key Standing S) (declared : List Known) (blocks : List Opened) (loops : ℕ)
-      → ((other : List ℕ) → standing_of after other ≡ standing_of table other) → IsKept table declared blocks loops → IsKept after declared blocks loops
+      → ((other : List ℕ) → standing_of after other ≡ standing_of table other) → KeepsUp table declared blocks loops → KeepsUp after declared blocks loops
   noted_kept table after declared blocks loops same kept = record {
     known = λ name. ap (λ s. s.declared) (same name) ∙ kept.known name;
     variable = λ name. ap (λ s. s.variable) (same name) ∙ kept.variable name;
@@ -70,8 +69,8 @@ module _ {S : Type 0} where
   }
 
   pub declared_kept : (table after : HashMap Key Standing S) (declared : List Known) (blocks : List Opened) (loops : ℕ) (name : List ℕ) (stands : Meaning)
-      → Changed table after name (λ own. and_declared own stands) → IsKept table declared blocks loops
-      → IsKept after (declared ++ record { name = name; meaning = stands } ∷ []) blocks loops
+      → Changed table after name (λ own. and_declared own stands) → KeepsUp table declared blocks loops
+      → KeepsUp after (declared ++ record { name = name; meaning = stands } ∷ []) blocks loops
   declared_kept table after declared blocks loops name stands changed kept = record {
     known = λ other.
         let both : found other (declared ++ record { name = name; meaning = stands } ∷ []) ≡ first_meaning (found other declared) (if bytes_eq other name then Some stands else None) = found_both other declared (record { name = name; meaning = stands } ∷ []) in
@@ -83,8 +82,8 @@ module _ {S : Type 0} where
   }
 
   loop_closed : (table after : HashMap Key Standing S) (declared : List Known) (blocks : List Opened) (loops : ℕ) (name : List ℕ) (line : ℕ) (outer : Option ℕ)
-      → Changed table after name (λ own. with_variable own outer) → IsKept table declared (record { block = Repeated line name; outer = outer } ∷ blocks) loops
-      → IsKept after declared blocks (loops - 1)
+      → Changed table after name (λ own. with_variable own outer) → KeepsUp table declared (record { block = Repeated line name; outer = outer } ∷ blocks) loops
+      → KeepsUp after declared blocks (loops - 1)
   loop_closed table after declared blocks loops name line outer changed kept = record {
     known = λ other. grind (arith, changed other, kept.known other);
     variable = λ other.
@@ -96,7 +95,7 @@ module _ {S : Type 0} where
 
   -- the name of an open loop is in the table
   open_present : (table : HashMap Key Standing S) (declared : List Known) (blocks : List Opened) (loops : ℕ) (name : List ℕ) (line : ℕ) (outer : Option ℕ)
-      → IsKept table declared (record { block = Repeated line name; outer = outer } ∷ blocks) loops → IsSome (get same_key table (key name))
+      → KeepsUp table declared (record { block = Repeated line name; outer = outer } ∷ blocks) loops → IsSome (get same_key table (key name))
   open_present table declared blocks loops name line outer kept = known_in (get same_key table (key name)) (kept.variable name ∙ rw same refl)
     where
       same : bytes_eq name name ≡ true
@@ -115,15 +114,15 @@ last_first blocks rest last block popped is =
 
 module _ {S : Type 0} where
   pub popped_present : (table : HashMap Key Standing S) (declared : List Known) (blocks rest : List Opened) (loops : ℕ) (last : Opened) (name : List ℕ) (line : ℕ)
-      → blocks ≡ rest ++ last ∷ [] → last.block ≡ Repeated line name → IsKept table declared (reverse blocks) loops → IsSome (get same_key table (key name))
+      → blocks ≡ rest ++ last ∷ [] → last.block ≡ Repeated line name → KeepsUp table declared (reverse blocks) loops → IsSome (get same_key table (key name))
   popped_present table declared blocks rest loops last name line popped is kept =
-      open_present table declared (reverse rest) loops name line last.outer (subst (λ bs. IsKept table declared bs loops) (last_first blocks rest last (Repeated line name) popped is) kept)
+      open_present table declared (reverse rest) loops name line last.outer (subst (λ bs. KeepsUp table declared bs loops) (last_first blocks rest last (Repeated line name) popped is) kept)
 
   pub popped_kept : (table after : HashMap Key Standing S) (declared : List Known) (blocks rest : List Opened) (loops : ℕ) (last : Opened) (name : List ℕ) (line : ℕ)
       → blocks ≡ rest ++ last ∷ [] → last.block ≡ Repeated line name → Changed table after name (λ own. with_variable own last.outer)
-      → IsKept table declared (reverse blocks) loops → IsKept after declared (reverse rest) (loops - 1)
+      → KeepsUp table declared (reverse blocks) loops → KeepsUp after declared (reverse rest) (loops - 1)
   popped_kept table after declared blocks rest loops last name line popped is changed kept =
-      loop_closed table after declared (reverse rest) loops name line last.outer changed (subst (λ bs. IsKept table declared bs loops) (last_first blocks rest last (Repeated line name) popped is) kept)
+      loop_closed table after declared (reverse rest) loops name line last.outer changed (subst (λ bs. KeepsUp table declared bs loops) (last_first blocks rest last (Repeated line name) popped is) kept)
 
 -- ---- there are no more loops than open blocks
 

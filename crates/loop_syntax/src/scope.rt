@@ -88,11 +88,11 @@ impl Model for Scope {
 
     ghost Value = { Names };
 
-    ghost use Rattle.loop_syntax.specs.ScopeFields.{blocks_of, IsKept};
+    ghost use Rattle.loop_syntax.specs.ScopeFields.{blocks_of, KeepsUp};
 
     ghost view = { λ s. record { declared = s.declared.items; arrays = s.arrays; blocks = blocks_of (reverse s.blocks.items) } };
 
-    ghost invariant = { λ s. IsKept s.table s.declared.items (reverse s.blocks.items) s.loops };
+    ghost invariant = { λ s. KeepsUp s.table s.declared.items (reverse s.blocks.items) s.loops };
 }
 
 fn is_text(word: &[u8], text: &[u8]) -> bool

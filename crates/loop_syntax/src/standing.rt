@@ -93,9 +93,11 @@ pub fn make_room(table: &mut Standings, name: &Name) -> Result<Standing, Memory>
     ensures present { OnOk result (IsSome (get same_key table.new (key name.now))) }
     ensures same { (other : List ℕ) → standing_of table.new other ≡ standing_of table.old other }
 {
-    let own = standing_of(table, name);
-    table.insert(Key { name: name.copy() }, own)?;
-    Ok(own)
+    let own = table.entry(Key { name: name.copy() })?.or_insert(Standing {
+        declared: None,
+        variable: None,
+    });
+    Ok(*own)
 }
 
 /// A name of the table stands for this too, unless it is declared already.
