@@ -1,5 +1,5 @@
 // What names stand for on a line.
-ghost use Rattle.std.specs.Prelude.{◌≡◌, ◌+◌, ◌<◌, ◌≤◌, ◌^◌, ◌++◌, length, reverse, IfOk};
+ghost use Rattle.std.specs.Prelude.{◌≡◌, ◌+◌, ◌<◌, ◌≤◌, ◌^◌, length, IfOk};
 ghost use Rattle.std.specs.Str.{bytes_eq};
 ghost use Rattle.loop_syntax.specs.Scope.{empty, variables, meaning_of, declared, opened, closed, scope_behind, index_part, parts_from, part_use, own_use, dotted_use, use_of};
 
@@ -75,9 +75,12 @@ pub struct Opened {
 /// whatever the number of names and open blocks.
 #[derive(Drop)]
 pub struct Scope {
+    // The declared names in their order, which contracts speak of. Names are sought in the table.
     declared: Vec<Known>,
     arrays: u32,
+    // From the outermost block on.
     blocks: Vec<Opened>,
+    // How many of the blocks are loops.
     loops: usize,
     table: Standings,
 }
