@@ -16,7 +16,7 @@ use Rattle.loop_syntax.specs.declared.standing.Key.{Key}
 use Rattle.loop_syntax.specs.declared.standing.Standing.{Standing}
 use Rattle.loop_syntax.specs.Scope.{found, variables}
 use Rattle.loop_syntax.specs.ScopeFields.{innermost, blocks_of, KeepsUp}
-use Rattle.loop_syntax.specs.Standing.{key, same_key, standing_of, first_meaning, and_declared, with_variable, nothing, own_meaning}
+use Rattle.loop_syntax.specs.Standing.{key, same_key, standing_of, first_meaning, and_declared, with_variable, nothing, own_meaning, ChangesAt}
 
 -- ---- a name is sought among the variables, and then among the declared names
 
@@ -55,10 +55,6 @@ module _ {S : Type 0} where
 
   -- ---- what a change of the table leaves
 
-  -- what a table says of each name after a change at one name
-  abbrev pub Changed : HashMap Key Standing S → HashMap Key Standing S → List ℕ → (Standing → Standing) → Type 0
-  Changed table after name change = (other : List ℕ) → standing_of after other ≡ (if bytes_eq other name then change (standing_of table other) else standing_of table other)
-
   pub noted_kept : (table after : HashMap Key Standing S) (declared : List Known) (blocks : List Opened) (loops : ℕ)
       → ((other : List ℕ) → standing_of after other ≡ standing_of table other) → KeepsUp table declared blocks loops → KeepsUp after declared blocks loops
   noted_kept table after declared blocks loops same kept = record {
@@ -69,7 +65,7 @@ module _ {S : Type 0} where
   }
 
   pub declared_kept : (table after : HashMap Key Standing S) (declared : List Known) (blocks : List Opened) (loops : ℕ) (name : List ℕ) (stands : Meaning)
-      → Changed table after name (λ own. and_declared own stands) → KeepsUp table declared blocks loops
+      → ChangesAt name (λ own. and_declared own stands) table after → KeepsUp table declared blocks loops
       → KeepsUp after (declared ++ record { name = name; meaning = stands } ∷ []) blocks loops
   declared_kept table after declared blocks loops name stands changed kept = record {
     known = λ other.
@@ -82,7 +78,7 @@ module _ {S : Type 0} where
   }
 
   loop_closed : (table after : HashMap Key Standing S) (declared : List Known) (blocks : List Opened) (loops : ℕ) (name : List ℕ) (line : ℕ) (outer : Option ℕ)
-      → Changed table after name (λ own. with_variable own outer) → KeepsUp table declared (record { block = Repeated line name; outer = outer } ∷ blocks) loops
+      → ChangesAt name (λ own. with_variable own outer) table after → KeepsUp table declared (record { block = Repeated line name; outer = outer } ∷ blocks) loops
       → KeepsUp after declared blocks (loops - 1)
   loop_closed table after declared blocks loops name line outer changed kept = record {
     known = λ other. grind (arith, changed other, kept.known other);
@@ -119,7 +115,7 @@ module _ {S : Type 0} where
       open_present table declared (reverse rest) loops name line last.outer (subst (λ bs. KeepsUp table declared bs loops) (last_first blocks rest last (Repeated line name) popped is) kept)
 
   pub popped_kept : (table after : HashMap Key Standing S) (declared : List Known) (blocks rest : List Opened) (loops : ℕ) (last : Opened) (name : List ℕ) (line : ℕ)
-      → blocks ≡ rest ++ last ∷ [] → last.block ≡ Repeated line name → Changed table after name (λ own. with_variable own last.outer)
+      → blocks ≡ rest ++ last ∷ [] → last.block ≡ Repeated line name → ChangesAt name (λ own. with_variable own last.outer) table after
       → KeepsUp table declared (reverse blocks) loops → KeepsUp after declared (reverse rest) (loops - 1)
   popped_kept table after declared blocks rest loops last name line popped is changed kept =
       loop_closed table after declared (reverse rest) loops name line last.outer changed (subst (λ bs. KeepsUp table declared bs loops) (last_first blocks rest last (Repeated line name) popped is) kept)

@@ -1,11 +1,11 @@
 // What names stand for, in a table that finds a name by its hash.
-ghost use Rattle.std.specs.Prelude.{◌≡◌, ℕ, List, ◌∷◌, [], if◌then◌else◌, IsSome, IfOk, OnOk};
+ghost use Rattle.std.specs.Prelude.{◌≡◌, ℕ, List, ◌∷◌, [], IsSome, IfOk, OnOk};
 ghost use Rattle.std.proofs.Common.{ap};
 ghost use Rattle.std.specs.Cmp.{partial_equiv_from_equiv};
 ghost use Rattle.std.specs.Cmp.Lexicographic.{bytes_decides, on_texts_equal};
 ghost use Rattle.std.specs.HashMap.{get};
 ghost use Rattle.std.specs.Str.{bytes_eq};
-ghost use Rattle.loop_syntax.specs.Standing.{same_key, key, standing_of, first_meaning, and_declared, with_variable, own_meaning};
+ghost use Rattle.loop_syntax.specs.Standing.{same_key, key, standing_of, first_meaning, and_declared, with_variable, own_meaning, ChangesAt};
 
 use crate::scope::Meaning;
 use loop_core::name::Name;
@@ -103,7 +103,7 @@ pub fn make_room(table: &mut Standings, name: &Name) -> Result<Standing, Memory>
 /// A name of the table stands for this too, unless it is declared already.
 pub fn put_declared(table: &mut Standings, name: &Name, meaning: Meaning)
     requires { IsSome (get same_key table.old (key name.now)) }
-    ensures { (other : List ℕ) → standing_of table.new other ≡ (if bytes_eq other name.now then and_declared (standing_of table.old other) meaning else standing_of table.old other) }
+    ensures { ChangesAt name.now (λ own. and_declared own meaning) table.old table.new }
 {
     if let Some(own) = table.get_mut(&Key { name: name.copy() }) {
         own.declared = first_meaning(own.declared, Some(meaning));
@@ -113,7 +113,7 @@ pub fn put_declared(table: &mut Standings, name: &Name, meaning: Meaning)
 /// A name of the table is now the variable of the loop on this line, or of none.
 pub fn put_variable(table: &mut Standings, name: &Name, line: Option<u32>)
     requires { IsSome (get same_key table.old (key name.now)) }
-    ensures { (other : List ℕ) → standing_of table.new other ≡ (if bytes_eq other name.now then with_variable (standing_of table.old other) line else standing_of table.old other) }
+    ensures { ChangesAt name.now (λ own. with_variable own line) table.old table.new }
 {
     if let Some(own) = table.get_mut(&Key { name: name.copy() }) {
         own.variable = line;
