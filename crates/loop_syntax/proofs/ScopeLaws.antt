@@ -1,12 +1,11 @@
 -- A scope's table keeps up with its declared names and its open blocks.
-use Rattle.std.proofs.Common.{ℕ, ◌≡◌, ◌+◌, ◌-◌, Bool, true, false, List, [], ◌∷◌, ◌++◌, ◌≤◌, length, Option, Some, None, refl, sym, ◌∙◌, ap, subst, ⊎_elim, arith}
+use Rattle.std.proofs.Common.{ℕ, ◌≡◌, ◌-◌, Bool, true, false, List, [], ◌∷◌, ◌++◌, ◌≤◌, length, Option, Some, None, refl, sym, ◌∙◌, ap, subst, arith}
 use Rattle.std.specs.Prelude.{if◌then◌else◌, IsSome, unwrap_or, reverse}
 use Rattle.std.proofs.lemmas.List.{reverse-append, length-reverse, length-map}
 use Rattle.std.specs.Option.{option_map}
 use Rattle.std.specs.Cmp.Lexicographic.{bytes_decides}
 use Rattle.std.specs.HashMap.{HashMap, get}
 use Rattle.std.specs.Str.{bytes_eq}
-use Rattle.std.proofs.lemmas.Bool.{cases_Bool}
 use Rattle.loop_syntax.specs.declared.scope.Block.{Block}
 use Rattle.loop_syntax.specs.declared.scope.Block.TheVariants.{Repeated, Guarded}
 use Rattle.loop_syntax.specs.declared.scope.Known.{Known}
@@ -16,8 +15,8 @@ use Rattle.loop_syntax.specs.declared.scope.Opened.{Opened}
 use Rattle.loop_syntax.specs.declared.standing.Key.{Key}
 use Rattle.loop_syntax.specs.declared.standing.Standing.{Standing}
 use Rattle.loop_syntax.specs.Scope.{found, variables}
-use Rattle.loop_syntax.specs.ScopeFields.{innermost, blocks_of, IsKept}
-use Rattle.loop_syntax.specs.Standing.{key, same_key, standing_of, first_meaning, and_declared, with_variable, nothing, own_meaning}
+use Rattle.loop_syntax.specs.ScopeFields.{innermost, blocks_of, KeepsUp}
+use Rattle.loop_syntax.specs.Standing.{key, same_key, standing_of, first_meaning, and_declared, with_variable, nothing, own_meaning, ChangesAt}
 
 -- ---- a name is sought among the variables, and then among the declared names
 
@@ -47,11 +46,12 @@ found_variable name [] = refl
 found_variable name (Repeated line own ∷ more) = found_repeated name own line more (bytes_eq name own) refl (found_variable name more)
 found_variable name (Guarded ∷ more) = found_variable name more
 
-at_name : (name other : List ℕ) (P : Type 0) → (bytes_eq other name ≡ true → P) → (bytes_eq other name ≡ false → P) → P
-at_name name other P same apart = ⊎_elim same apart (cases_Bool (bytes_eq other name))
+first_alone : (meaning : Option Meaning) → first_meaning meaning None ≡ meaning
+first_alone None = refl
+first_alone (Some meaning) = refl
 
 module _ {S : Type 0} where
-  pub meaning_kept : (table : HashMap Key Standing S) (declared : List Known) (blocks : List Opened) (loops : ℕ) (name : List ℕ) → IsKept table declared blocks loops
+  pub meaning_kept : (table : HashMap Key Standing S) (declared : List Known) (blocks : List Opened) (loops : ℕ) (name : List ℕ) → KeepsUp table declared blocks loops
       → own_meaning (standing_of table name) ≡ found name (variables (blocks_of blocks) ++ declared)
   meaning_kept table declared blocks loops name kept =
       ap (λ v. first_meaning (option_map meanings.Variable v) (standing_of table name).declared) (kept.variable name)
@@ -61,20 +61,8 @@ module _ {S : Type 0} where
 
   -- ---- what a change of the table leaves
 
-  -- what a table says of each name after a change at one name
-  abbrev pub Changed : HashMap Key Standing S → HashMap Key Standing S → List ℕ → (Standing → Standing) → Type 0
-  Changed table after name change = (other : List ℕ) → standing_of after other ≡ (if bytes_eq other name then change (standing_of table other) else standing_of table other)
-
-  here : (table after : HashMap Key Standing S) (name other : List ℕ) (change : Standing → Standing) → Changed table after name change
-      → bytes_eq other name ≡ true → standing_of after other ≡ change (standing_of table other)
-  here table after name other change changed e = changed other ∙ rw e refl
-
-  elsewhere : (table after : HashMap Key Standing S) (name other : List ℕ) (change : Standing → Standing) → Changed table after name change
-      → bytes_eq other name ≡ false → standing_of after other ≡ standing_of table other
-  elsewhere table after name other change changed e = changed other ∙ rw e refl
-
   pub noted_kept : (table after : HashMap Key Standing S) (declared : List Known) (blocks : List Opened) (loops : ℕ)
-      → ((other : List ℕ) → standing_of after other ≡ standing_of table other) → IsKept table declared blocks loops → IsKept after declared blocks loops
+      → ((other : List ℕ) → standing_of after other ≡ standing_of table other) → KeepsUp table declared blocks loops → KeepsUp after declared blocks loops
   noted_kept table after declared blocks loops same kept = record {
     known = λ name. ap (λ s. s.declared) (same name) ∙ kept.known name;
     variable = λ name. ap (λ s. s.variable) (same name) ∙ kept.variable name;
@@ -83,64 +71,33 @@ module _ {S : Type 0} where
   }
 
   pub declared_kept : (table after : HashMap Key Standing S) (declared : List Known) (blocks : List Opened) (loops : ℕ) (name : List ℕ) (stands : Meaning)
-      → Changed table after name (λ own. and_declared own stands) → IsKept table declared blocks loops
-      → IsKept after (declared ++ record { name = name; meaning = stands } ∷ []) blocks loops
+      → ChangesAt name (λ own. and_declared own stands) table after → KeepsUp table declared blocks loops
+      → KeepsUp after (declared ++ record { name = name; meaning = stands } ∷ []) blocks loops
   declared_kept table after declared blocks loops name stands changed kept = record {
     known = λ other.
-        let both : found other (declared ++ record { name = name; meaning = stands } ∷ []) ≡ first_meaning (found other declared) (found other (record { name = name; meaning = stands } ∷ [])) = found_both other declared (record { name = name; meaning = stands } ∷ []) in
-        at_name name other ((standing_of after other).declared ≡ found other (declared ++ record { name = name; meaning = stands } ∷ []))
-        (λ e. ap (λ s. s.declared) (here table after name other (λ own. and_declared own stands) changed e) ∙ ap (λ d. first_meaning d (Some stands)) (kept.known other) ∙ sym (both ∙ ap (λ b. first_meaning (found other declared) (if b then Some stands else None)) e))
-        (λ e. ap (λ s. s.declared) (elsewhere table after name other (λ own. and_declared own stands) changed e) ∙ kept.known other ∙ sym (both ∙ ap (λ b. first_meaning (found other declared) (if b then Some stands else None)) e ∙ first_alone (found other declared)));
-    variable = λ other. at_name name other ((standing_of after other).variable ≡ innermost other (blocks_of blocks))
-        (λ e. ap (λ s. s.variable) (here table after name other (λ own. and_declared own stands) changed e) ∙ kept.variable other)
-        (λ e. ap (λ s. s.variable) (elsewhere table after name other (λ own. and_declared own stands) changed e) ∙ kept.variable other);
+        let both : found other (declared ++ record { name = name; meaning = stands } ∷ []) ≡ first_meaning (found other declared) (if bytes_eq other name then Some stands else None) = found_both other declared (record { name = name; meaning = stands } ∷ []) in
+        let alone : first_meaning (found other declared) None ≡ found other declared = first_alone (found other declared) in
+        grind (arith, both, alone, changed other, kept.known other);
+    variable = λ other. grind (arith, changed other, kept.variable other);
     outer = kept.outer;
     counted = kept.counted;
   }
-    where
-      first_alone : (m : Option Meaning) → first_meaning m None ≡ m
-      first_alone None = refl
-      first_alone (Some m) = refl
 
-  pub guard_kept : (table : HashMap Key Standing S) (declared : List Known) (blocks : List Opened) (loops : ℕ) (outer : Option ℕ)
-      → IsKept table declared blocks loops → IsKept table declared (record { block = Guarded; outer = outer } ∷ blocks) loops
-  guard_kept table declared blocks loops outer kept = record { known = kept.known; variable = kept.variable; outer = (tt, kept.outer); counted = kept.counted }
-
-  pub guard_closed : (table : HashMap Key Standing S) (declared : List Known) (blocks : List Opened) (loops : ℕ) (outer : Option ℕ)
-      → IsKept table declared (record { block = Guarded; outer = outer } ∷ blocks) loops → IsKept table declared blocks loops
-  guard_closed table declared blocks loops outer kept = record { known = kept.known; variable = kept.variable; outer = kept.outer.1; counted = kept.counted }
-
-  pub loop_kept : (table after : HashMap Key Standing S) (declared : List Known) (blocks : List Opened) (loops : ℕ) (name : List ℕ) (line : ℕ) (outer : Option ℕ)
-      → outer ≡ (standing_of table name).variable → Changed table after name (λ own. with_variable own (Some line)) → IsKept table declared blocks loops
-      → IsKept after declared (record { block = Repeated line name; outer = outer } ∷ blocks) (loops + 1)
-  loop_kept table after declared blocks loops name line outer was changed kept = record {
-    known = λ other. at_name name other ((standing_of after other).declared ≡ found other declared)
-        (λ e. ap (λ s. s.declared) (here table after name other (λ own. with_variable own (Some line)) changed e) ∙ kept.known other)
-        (λ e. ap (λ s. s.declared) (elsewhere table after name other (λ own. with_variable own (Some line)) changed e) ∙ kept.known other);
-    variable = λ other. at_name name other ((standing_of after other).variable ≡ innermost other (Repeated line name ∷ blocks_of blocks))
-        (λ e. ap (λ s. s.variable) (here table after name other (λ own. with_variable own (Some line)) changed e) ∙ rw e refl)
-        (λ e. ap (λ s. s.variable) (elsewhere table after name other (λ own. with_variable own (Some line)) changed e) ∙ kept.variable other ∙ rw e refl);
-    outer = (was ∙ kept.variable name, kept.outer);
-    counted = omega (arith, kept.counted);
-  }
-
-  pub loop_closed : (table after : HashMap Key Standing S) (declared : List Known) (blocks : List Opened) (loops : ℕ) (name : List ℕ) (line : ℕ) (outer : Option ℕ)
-      → Changed table after name (λ own. with_variable own outer) → IsKept table declared (record { block = Repeated line name; outer = outer } ∷ blocks) loops
-      → IsKept after declared blocks (loops - 1)
+  loop_closed : (table after : HashMap Key Standing S) (declared : List Known) (blocks : List Opened) (loops : ℕ) (name : List ℕ) (line : ℕ) (outer : Option ℕ)
+      → ChangesAt name (λ own. with_variable own outer) table after → KeepsUp table declared (record { block = Repeated line name; outer = outer } ∷ blocks) loops
+      → KeepsUp after declared blocks (loops - 1)
   loop_closed table after declared blocks loops name line outer changed kept = record {
-    known = λ other. at_name name other ((standing_of after other).declared ≡ found other declared)
-        (λ e. ap (λ s. s.declared) (here table after name other (λ own. with_variable own outer) changed e) ∙ kept.known other)
-        (λ e. ap (λ s. s.declared) (elsewhere table after name other (λ own. with_variable own outer) changed e) ∙ kept.known other);
-    variable = λ other. at_name name other ((standing_of after other).variable ≡ innermost other (blocks_of blocks))
-        (λ e. ap (λ s. s.variable) (here table after name other (λ own. with_variable own outer) changed e) ∙ kept.outer.0 ∙ ap (λ n. innermost n (blocks_of blocks)) (sym ((bytes_decides other name).0 e)))
-        (λ e. ap (λ s. s.variable) (elsewhere table after name other (λ own. with_variable own outer) changed e) ∙ kept.variable other ∙ rw e refl);
+    known = λ other. grind (arith, changed other, kept.known other);
+    variable = λ other.
+        let same : bytes_eq other name ≡ true → innermost name (blocks_of blocks) ≡ innermost other (blocks_of blocks) = λ e. ap (λ n. innermost n (blocks_of blocks)) (sym ((bytes_decides other name).0 e)) in
+        grind (arith, same, changed other, kept.outer.0, kept.variable other);
     outer = kept.outer.1;
     counted = omega (arith, kept.counted);
   }
 
   -- the name of an open loop is in the table
-  pub open_present : (table : HashMap Key Standing S) (declared : List Known) (blocks : List Opened) (loops : ℕ) (name : List ℕ) (line : ℕ) (outer : Option ℕ)
-      → IsKept table declared (record { block = Repeated line name; outer = outer } ∷ blocks) loops → IsSome (get same_key table (key name))
+  open_present : (table : HashMap Key Standing S) (declared : List Known) (blocks : List Opened) (loops : ℕ) (name : List ℕ) (line : ℕ) (outer : Option ℕ)
+      → KeepsUp table declared (record { block = Repeated line name; outer = outer } ∷ blocks) loops → IsSome (get same_key table (key name))
   open_present table declared blocks loops name line outer kept = known_in (get same_key table (key name)) (kept.variable name ∙ rw same refl)
     where
       same : bytes_eq name name ≡ true
@@ -159,15 +116,15 @@ last_first blocks rest last block popped is =
 
 module _ {S : Type 0} where
   pub popped_present : (table : HashMap Key Standing S) (declared : List Known) (blocks rest : List Opened) (loops : ℕ) (last : Opened) (name : List ℕ) (line : ℕ)
-      → blocks ≡ rest ++ last ∷ [] → last.block ≡ Repeated line name → IsKept table declared (reverse blocks) loops → IsSome (get same_key table (key name))
+      → blocks ≡ rest ++ last ∷ [] → last.block ≡ Repeated line name → KeepsUp table declared (reverse blocks) loops → IsSome (get same_key table (key name))
   popped_present table declared blocks rest loops last name line popped is kept =
-      open_present table declared (reverse rest) loops name line last.outer (subst (λ bs. IsKept table declared bs loops) (last_first blocks rest last (Repeated line name) popped is) kept)
+      open_present table declared (reverse rest) loops name line last.outer (subst (λ bs. KeepsUp table declared bs loops) (last_first blocks rest last (Repeated line name) popped is) kept)
 
   pub popped_kept : (table after : HashMap Key Standing S) (declared : List Known) (blocks rest : List Opened) (loops : ℕ) (last : Opened) (name : List ℕ) (line : ℕ)
-      → blocks ≡ rest ++ last ∷ [] → last.block ≡ Repeated line name → Changed table after name (λ own. with_variable own last.outer)
-      → IsKept table declared (reverse blocks) loops → IsKept after declared (reverse rest) (loops - 1)
+      → blocks ≡ rest ++ last ∷ [] → last.block ≡ Repeated line name → ChangesAt name (λ own. with_variable own last.outer) table after
+      → KeepsUp table declared (reverse blocks) loops → KeepsUp after declared (reverse rest) (loops - 1)
   popped_kept table after declared blocks rest loops last name line popped is changed kept =
-      loop_closed table after declared (reverse rest) loops name line last.outer changed (subst (λ bs. IsKept table declared bs loops) (last_first blocks rest last (Repeated line name) popped is) kept)
+      loop_closed table after declared (reverse rest) loops name line last.outer changed (subst (λ bs. KeepsUp table declared bs loops) (last_first blocks rest last (Repeated line name) popped is) kept)
 
 -- ---- there are no more loops than open blocks
 

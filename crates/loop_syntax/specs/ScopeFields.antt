@@ -30,7 +30,7 @@ AreOuter [] = Unit {0}
 AreOuter (opened ∷ more) = IsOuter opened.block opened.outer (blocks_of more) × AreOuter more
 
 -- the table knows the declared names and the variables, and the loops are counted; blocks stand from the innermost on
-pub record IsKept {S : Type 0} (table : HashMap Key Standing S) (declared : List Known) (blocks : List Opened) (loops : ℕ) : Type 0 where
+pub record KeepsUp {S : Type 0} (table : HashMap Key Standing S) (declared : List Known) (blocks : List Opened) (loops : ℕ) : Type 0 where
   pub known : (name : List ℕ) → (standing_of table name).declared ≡ found name declared
   pub variable : (name : List ℕ) → (standing_of table name).variable ≡ innermost name (blocks_of blocks)
   pub outer : AreOuter blocks

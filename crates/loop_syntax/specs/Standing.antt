@@ -1,5 +1,5 @@
 -- What names stand for, in a table.
-use Rattle.std.specs.Prelude.{ℕ, Bool, List, Option, Some, None, unwrap_or}
+use Rattle.std.specs.Prelude.{◌≡◌, if◌then◌else◌, ℕ, Bool, List, Option, Some, None, unwrap_or}
 use Rattle.std.specs.HashMap.{HashMap, get}
 use Rattle.std.specs.Str.{bytes_eq}
 use Rattle.std.specs.Option.{option_map}
@@ -36,3 +36,7 @@ with_variable own variable = record { declared = own.declared; variable = variab
 -- a variable goes before a declared name
 abbrev pub own_meaning : Standing → Option Meaning
 own_meaning own = first_meaning (option_map meanings.Variable own.variable) own.declared
+
+-- one name stands for something else than before, and the other names for what they stood for
+abbrev pub ChangesAt : {S : Type 0} → List ℕ → (Standing → Standing) → HashMap Key Standing S → HashMap Key Standing S → Type 0
+ChangesAt name change before after = (other : List ℕ) → standing_of after other ≡ (if bytes_eq other name then change (standing_of before other) else standing_of before other)

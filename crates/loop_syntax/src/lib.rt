@@ -14,7 +14,7 @@ pub mod read;
 pub mod refusal;
 pub mod resolve;
 pub mod scope;
-pub mod standing;
+mod standing;
 #[cfg(test)]
 mod tests;
 pub mod written;

@@ -33,9 +33,10 @@ fn refusal(alloc: Global, bytes: &[u8]) -> Result<Option<LoopRefusal>, Memory>
     Ok(None)
 }
 
-/// The nest that a text is. It goes at most six times over the text, and takes memory for the names
-/// in scope, for a line and for the nest. `Memory` says nothing of the text; the other refusals are
-/// those of the least line that is wrong: `Text` goes first, then `Name`, then `Limit`.
+/// The nest that a text is. It goes at most six times over the text, finds each name in constant
+/// expected time, and takes memory for the names in scope, for a line and for the nest. `Memory` says
+/// nothing of the text; the other refusals are those of the least line that is wrong: `Text` goes
+/// first, then `Name`, then `Limit`.
 pub fn read(alloc: Global, bytes: &[u8]) -> Result<Nest, LoopRefusal>
     requires { length bytes.now ≤ 2 ^ 28 }
     ensures answer { Answers (lines bytes.now) result }

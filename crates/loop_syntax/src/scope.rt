@@ -1,9 +1,9 @@
 // What names stand for on a line.
-ghost use Rattle.std.specs.Prelude.{◌≡◌, ◌+◌, ◌<◌, ◌≤◌, ◌^◌, ◌++◌, length, reverse, IfOk};
+ghost use Rattle.std.specs.Prelude.{◌≡◌, ◌+◌, ◌<◌, ◌≤◌, ◌^◌, length, IfOk};
 ghost use Rattle.std.specs.Str.{bytes_eq};
 ghost use Rattle.loop_syntax.specs.Scope.{empty, variables, meaning_of, declared, opened, closed, scope_behind, index_part, parts_from, part_use, own_use, dotted_use, use_of};
 
-use crate::standing::{Standings, note, own_meaning, put_declared, put_variable, standing_of};
+use crate::standing::{Standings, make_room, own_meaning, put_declared, put_variable, standing_of};
 use loop_core::decl::{Form, Size};
 use loop_core::name::Name;
 use loop_lines::line::Line;
@@ -75,9 +75,12 @@ pub struct Opened {
 /// whatever the number of names and open blocks.
 #[derive(Drop)]
 pub struct Scope {
+    // The declared names in their order, which contracts speak of. Names are sought in the table.
     declared: Vec<Known>,
     arrays: u32,
+    // From the outermost block on.
     blocks: Vec<Opened>,
+    // How many of the blocks are loops.
     loops: usize,
     table: Standings,
 }
@@ -88,11 +91,11 @@ impl Model for Scope {
 
     ghost Value = { Names };
 
-    ghost use Rattle.loop_syntax.specs.ScopeFields.{blocks_of, IsKept};
+    ghost use Rattle.loop_syntax.specs.ScopeFields.{blocks_of, KeepsUp};
 
     ghost view = { λ s. record { declared = s.declared.items; arrays = s.arrays; blocks = blocks_of (reverse s.blocks.items) } };
 
-    ghost invariant = { λ s. IsKept s.table s.declared.items (reverse s.blocks.items) s.loops };
+    ghost invariant = { λ s. KeepsUp s.table s.declared.items (reverse s.blocks.items) s.loops };
 }
 
 fn is_text(word: &[u8], text: &[u8]) -> bool
@@ -210,7 +213,7 @@ impl Scope {
         requires { self.old.arrays + arrays < 2 ^ 32 }
         ensures { IfOk result (λ _. self.new ≡ declared self.old name.now meaning arrays) }
     {
-        note(&mut self.table, name)?;
+        make_room(&mut self.table, name)?;
         self.declared.push(Known {
             name: name.copy(),
             meaning,
@@ -223,7 +226,7 @@ impl Scope {
     fn open_loop(&mut self, line: u32, name: &Name) -> Result<(), Memory>
         ensures { IfOk result (λ _. self.new ≡ opened self.old (Block.Repeated line name.now)) }
     {
-        let outer = note(&mut self.table, name)?.variable;
+        let outer = make_room(&mut self.table, name)?.variable;
         self.blocks.push(Opened {
             block: Block::Repeated {
                 line,

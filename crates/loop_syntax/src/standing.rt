@@ -1,11 +1,11 @@
 // What names stand for, in a table that finds a name by its hash.
-ghost use Rattle.std.specs.Prelude.{◌≡◌, ℕ, List, ◌∷◌, [], if◌then◌else◌, IsSome, IfOk, OnOk};
+ghost use Rattle.std.specs.Prelude.{◌≡◌, ℕ, List, ◌∷◌, [], IsSome, IfOk, OnOk};
 ghost use Rattle.std.proofs.Common.{ap};
 ghost use Rattle.std.specs.Cmp.{partial_equiv_from_equiv};
 ghost use Rattle.std.specs.Cmp.Lexicographic.{bytes_decides, on_texts_equal};
 ghost use Rattle.std.specs.HashMap.{get};
 ghost use Rattle.std.specs.Str.{bytes_eq};
-ghost use Rattle.loop_syntax.specs.Standing.{same_key, key, standing_of, first_meaning, and_declared, with_variable, own_meaning};
+ghost use Rattle.loop_syntax.specs.Standing.{same_key, key, standing_of, first_meaning, and_declared, with_variable, own_meaning, ChangesAt};
 
 use crate::scope::Meaning;
 use loop_core::name::Name;
@@ -87,21 +87,23 @@ pub fn standing_of(table: &Standings, name: &Name) -> Standing
     }
 }
 
-/// Makes room for what a name stands for, which it gives.
-pub fn note(table: &mut Standings, name: &Name) -> Result<Standing, Memory>
+/// What a name stands for in a table, which has room for it from then on.
+pub fn make_room(table: &mut Standings, name: &Name) -> Result<Standing, Memory>
     ensures own { IfOk result (λ own. own ≡ standing_of table.old name.now) }
     ensures present { OnOk result (IsSome (get same_key table.new (key name.now))) }
     ensures same { (other : List ℕ) → standing_of table.new other ≡ standing_of table.old other }
 {
-    let own = standing_of(table, name);
-    table.insert(Key { name: name.copy() }, own)?;
-    Ok(own)
+    let own = table.entry(Key { name: name.copy() })?.or_insert(Standing {
+        declared: None,
+        variable: None,
+    });
+    Ok(*own)
 }
 
 /// A name of the table stands for this too, unless it is declared already.
 pub fn put_declared(table: &mut Standings, name: &Name, meaning: Meaning)
     requires { IsSome (get same_key table.old (key name.now)) }
-    ensures { (other : List ℕ) → standing_of table.new other ≡ (if bytes_eq other name.now then and_declared (standing_of table.old other) meaning else standing_of table.old other) }
+    ensures { ChangesAt name.now (λ own. and_declared own meaning) table.old table.new }
 {
     if let Some(own) = table.get_mut(&Key { name: name.copy() }) {
         own.declared = first_meaning(own.declared, Some(meaning));
@@ -111,7 +113,7 @@ pub fn put_declared(table: &mut Standings, name: &Name, meaning: Meaning)
 /// A name of the table is now the variable of the loop on this line, or of none.
 pub fn put_variable(table: &mut Standings, name: &Name, line: Option<u32>)
     requires { IsSome (get same_key table.old (key name.now)) }
-    ensures { (other : List ℕ) → standing_of table.new other ≡ (if bytes_eq other name.now then with_variable (standing_of table.old other) line else standing_of table.old other) }
+    ensures { ChangesAt name.now (λ own. with_variable own line) table.old table.new }
 {
     if let Some(own) = table.get_mut(&Key { name: name.copy() }) {
         own.variable = line;
