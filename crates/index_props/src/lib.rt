@@ -19,6 +19,7 @@ pub mod plain_meaning;
 pub mod plain_pairs;
 pub mod plain_places;
 pub mod plain_segment;
+pub mod plain_words;
 pub mod rule;
 pub mod segment;
 pub mod small;

@@ -5,11 +5,12 @@ ghost use Rattle.loop_core.specs.Lists.{list_of, word_at};
 ghost use Rattle.loop_core.specs.Terms.{term_value};
 ghost use Rattle.index_props.specs.Meanings.{at, Ranged, RisingList, StrictList, InjectiveList, InSegment, SortedBy, BelowBy, UptoBy, IsDiagonal, DiagonalOf, BeforeList, Means};
 
+use crate::plain_words::{
+    bound, has_next, is_at_most, is_equal, is_less, value_after, value_at, word_of,
+};
 use loop_core::arrays::Arrays;
 use loop_core::decl::PropKind;
-use loop_core::env::Variables;
-use loop_core::nest::{Term, VarId};
-use loop_core::terms::eval;
+use loop_core::nest::Term;
 use std::marker::Brand;
 use std::sync::ledger::{Blank, Ledger};
 use wave_base::steps::Steps;
@@ -46,73 +47,6 @@ fn has<L: Ledger>(arrays: &Arrays, kind: &PropKind, steps: &mut Steps<L>) -> boo
         PropKind::Diagonal(d, f, p) => is_diagonal(arrays, *d, *f, *p, steps),
         PropKind::Before(f, g) => is_before(arrays, *f, *g, steps),
     }
-}
-
-// Variables of which none has a value.
-#[derive(Clone, Copy)]
-struct Unbound;
-
-impl Variables for Unbound {
-    ghost use Rattle.std.specs.Prelude.{[]};
-
-    ghost bound_to = { λ _. [] };
-
-    fn value(&self, _var: VarId) -> i128 {
-        0
-    }
-}
-
-// The value of a bound, where no variable has one.
-fn bound<L: Ledger>(arrays: &Arrays, term: &Term, steps: &mut Steps<L>) -> i128
-    ensures { result ≡ term_value arrays.now [] term.now }
-{
-    eval(term, &Unbound, arrays, steps)
-}
-
-// The entry at a place, and 0 past the end.
-fn value_at<L: Ledger>(arrays: &Arrays, f: ArrayId, place: u64, steps: &mut Steps<L>) -> i128
-    ensures { result ≡ at (list_of arrays.now.lists f) place }
-{
-    arrays.at(f, place as i128, steps) as i128
-}
-
-// The word at any number, and 0 outside the list.
-fn word_of<L: Ledger>(arrays: &Arrays, f: ArrayId, place: i128, steps: &mut Steps<L>) -> i128
-    ensures { result ≡ word_at (list_of arrays.now.lists f) place }
-{
-    arrays.at(f, place, steps) as i128
-}
-
-// The entry at the next place, and 0 past the end.
-fn value_after<L: Ledger>(arrays: &Arrays, f: ArrayId, place: u64, steps: &mut Steps<L>) -> i128
-    ensures { result ≡ at (list_of arrays.now.lists f) (place + 1) }
-{
-    arrays.at(f, place as i128 + 1, steps) as i128
-}
-
-// Whether a place of so many has a next one.
-fn has_next(many: u64, place: u64) -> bool
-    ensures { IsTrue result ↔ (place + 1 < many) }
-{
-    place < many && place + 1 < many
-}
-
-fn is_at_most(x: i128, y: i128) -> bool
-    ensures { IsTrue result ↔ (x ≤ℤ y) }
-{
-    x <= y
-}
-
-fn is_less(x: i128, y: i128) -> bool
-    ensures { IsTrue result ↔ (x <ℤ y) }
-{
-    x < y
-}
-
-fn is_equal(x: i128, y: i128) -> bool
-    ensures { IsTrue result ↔ (x ≡ y) }
-{
-    x == y
 }
 
 // Each entry is from the one bound up to but not including the other.
