@@ -1,6 +1,7 @@
 pub mod AllOver
 pub mod AllSound
 pub mod Every
+pub mod Plainly
 pub mod Pushed
 pub mod Soundness
 mod Steps

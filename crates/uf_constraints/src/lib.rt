@@ -3,8 +3,13 @@
 
 pub mod env;
 pub mod listing;
+#[cfg(test)]
+mod made;
+pub mod plain;
 pub mod same;
 pub mod small;
+#[cfg(test)]
+mod spent;
 pub mod system;
 #[cfg(test)]
 mod tests;

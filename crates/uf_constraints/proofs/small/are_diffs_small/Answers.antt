@@ -1,4 +1,4 @@
-use Rattle.std.proofs.Common.{◌^◌, ◌≡◌, IsTrue, false, sym, refl, ◌∙◌, arith}
+use Rattle.std.proofs.Common.{◌^◌, IsTrue, sym, refl, ◌∙◌, arith}
 use Rattle.std.proofs.lemmas.Bool.{false≢true}
 use Rattle.uf_constraints.specs.Constants.{atom_within}
 use Rattle.uf_constraints.proofs.Walked.{all_step, all_end, all_fails}
