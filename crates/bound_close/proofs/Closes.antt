@@ -74,7 +74,7 @@ module _ (u : List Atom) (base : List Diff) (rules : List RuleInst) (T : ℕ →
   }
 
 -- a table in which nothing is known, and no steps
-unit-sound : (u : List Atom) (base : List Diff) (rules : List RuleInst) (T : ℕ → ℕ → ℤ) → ((x y : ℕ) → x < length u → y < length u → T x y ≡ unit_bound x y) → IsSound u base rules T
+pub unit-sound : (u : List Atom) (base : List Diff) (rules : List RuleInst) (T : ℕ → ℕ → ℤ) → ((x y : ℕ) → x < length u → y < length u → T x y ≡ unit_bound x y) → IsSound u base rules T
 unit-sound u base rules T is x y lx ly h =
     let e : x ≡ y = unit_finite (length u) T is x y lx ly h in
     let d : Derivable u base rules (atom_at u x) (atom_at u x) (pos 0) = same (atom_at u x) (x, lx, get-itself u x lx) in
@@ -126,6 +126,10 @@ pub if-ok-two : {X E : Type 0} (r : Result X E) (P Q R : X → Type 0) → IfOk 
 if-ok-two (Ok x) P Q R p q f = f x p q
 if-ok-two (Err e) P Q R p q f = tt
 
+pub if-ok-three : {X E : Type 0} (r : Result X E) (P Q S R : X → Type 0) → IfOk r P → IfOk r Q → IfOk r S → ((x : X) → P x → Q x → S x → R x) → IfOk r R
+if-ok-three (Ok x) P Q S R p q s f = f x p q s
+if-ok-three (Err e) P Q S R p q s f = tt
+
 -- the certificate of a bound: all steps that are kept, those of its way, and the constraint that was asked
 pub proof-shows : (u : List Atom) (base : List Diff) (rules : List RuleInst) (edges : List Edge) (old one new : List Step) (k x y : ℕ) (z c : ℤ) → Logged u base rules old edges → Emitted u edges old one k (diff_at u x y z) → z ≤ℤ c → new ≡ one ++ Weaken k c ∷ [] → outcome u base rules [] new ≡ Ok (diff_at u x y c)
 proof-shows u base rules edges old one new k x y z c g f h en =
@@ -135,7 +139,7 @@ proof-shows u base rules edges old one new k x y z c g f h en =
     let step : conclusion u base rules ds (Weaken k c) ≡ Some (diff_at u x y c) = rw got (weaken-given (atom_at u x) (atom_at u y) z c h) in
     log-shows u base rules new ds (diff_at u x y c) (rw en (more one ds (Weaken k c) (diff_at u x y c) r.1 step))
 
-test_is : (b : Bool) → (b ≡ true) ⊎ (b ≡ false)
+pub test_is : (b : Bool) → (b ≡ true) ⊎ (b ≡ false)
 test_is true = inl refl
 test_is false = inr refl
 

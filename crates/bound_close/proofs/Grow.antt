@@ -66,7 +66,7 @@ module _ (u : List Atom) (d : Diff) (o : IsOver u d) where
   placed : (base : List Diff) (rules : List RuleInst) → Derivable u base rules d.a d.b d.c → Derivable u base rules (atom_at u (place_in u d.a)) (atom_at u (place_in u d.b)) d.c
   placed base rules h = rw (place-is u d.a a_in, place-is u d.b b_in) h
 
-  Adds-sound : (T U : ℕ → ℕ → ℤ) (base : List Diff) (rules : List RuleInst) → Adds (length u) T (place_in u d.a) (place_in u d.b) d.c U → Derivable u base rules d.a d.b d.c → IsSound u base rules T → IsSound u base rules U
+  pub Adds-sound : (T U : ℕ → ℕ → ℤ) (base : List Diff) (rules : List RuleInst) → Adds (length u) T (place_in u d.a) (place_in u d.b) d.c U → Derivable u base rules d.a d.b d.c → IsSound u base rules T → IsSound u base rules U
   Adds-sound T U base rules w h s x y lx ly f = elim (w.cases x y lx ly) [
     | inl e ↦ rw e (s x y lx ly (rw (← e) f))
     | inr p ↦ rw p.2 (joined (atom_at u x) (atom_at u (place_in u d.b)) (atom_at u y) (T x (place_in u d.a) +ℤ d.c) (T (place_in u d.b) y)
@@ -74,7 +74,7 @@ module _ (u : List Atom) (d : Diff) (o : IsOver u d) where
         (s (place_in u d.b) y b_in ly p.1))
   ]
 
-  contradicts : (T : ℕ → ℕ → ℤ) (base : List Diff) (rules : List RuleInst) → T (place_in u d.b) (place_in u d.a) <ℤ far → (T (place_in u d.b) (place_in u d.a) +ℤ d.c) <ℤ pos 0 → Derivable u base rules d.a d.b d.c → IsSound u base rules T → IsContradictory u base rules
+  pub contradicts : (T : ℕ → ℕ → ℤ) (base : List Diff) (rules : List RuleInst) → T (place_in u d.b) (place_in u d.a) <ℤ far → (T (place_in u d.b) (place_in u d.a) +ℤ d.c) <ℤ pos 0 → Derivable u base rules d.a d.b d.c → IsSound u base rules T → IsContradictory u base rules
   contradicts T base rules f low h s =
       let b : Atom = atom_at u (place_in u d.b) in
       let a : Atom = atom_at u (place_in u d.a) in

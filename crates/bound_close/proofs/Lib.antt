@@ -3,6 +3,7 @@ pub mod Closes
 pub mod Count
 pub mod Edges
 pub mod Emits
+pub mod Grids
 pub mod Grow
 pub mod Improve
 pub mod Named
@@ -13,3 +14,4 @@ pub mod Sets
 pub mod Takes
 pub mod Tight
 pub mod Traced
+pub mod Visits

@@ -3,7 +3,10 @@ use Rattle.std.proofs.Common.{ℕ, ℤ, ◌<◌, ◌≤◌, ◌+◌, ◌≡◌, 
 use Rattle.std.proofs.Common.{w64, to_z, of_z, sym}
 use Rattle.std.proofs.lemmas.Int.{to_z-of_z}
 use mir.Val.{SFits}
-use Rattle.std.proofs.lemmas.Bool.{cases_eq}
+use Rattle.std.proofs.lemmas.Bool.{cases_eq, cases_lt}
+use Rattle.std.proofs.Common.{subst, [], ◌∷◌, ◌++◌}
+use Rattle.std.proofs.lemmas.List.{get_or_append_left}
+use Rattle.std.proofs.Math.Seq.{get_or-append_seam}
 use Rattle.std.proofs.Common.{pos, Bool, true, cond, rules}
 use Rattle.std.specs.Prelude.{◌+ℤ◌}
 use Rattle.std.specs.Int.Signed.{lt_z, ◌<ℤ◌}
@@ -57,3 +60,16 @@ pub put-two : {A B : Type 0} (now : List A) (mow : List B) (i : ℕ) (v d : A) (
 put-two now mow i v d w e P lt mt h p = below_more (λ k. P k (slice_index_or (slice_set now i v) k d) (slice_index_or (slice_set mow i w) k e)) i
     (λ k l. let ne : k ≢ i = omega arith in rw get_or-set_other (rw get_or-set_other (h k l)))
     (rw get_or-set_same (rw get_or-set_same p))
+
+-- a list that grows at its end
+pub push-done : {A : Type 0} (now new : List A) (n : ℕ) (v d : A) (P : ℕ → A → Type 0) → new ≡ now ++ v ∷ [] → length now ≡ n → ((k : ℕ) → k < n → P k (slice_index_or now k d)) → P n v → (k : ℕ) → k < n + 1 → P k (slice_index_or new k d)
+push-done {A} now new n v d P e l h p k lt =
+    subst (λ (xs : List A). P k (slice_index_or xs k d)) (sym e)
+    (elim (cases_lt k n) [
+      | inl q ↦ (let s : k < length now = omega arith in subst (λ (x : A). P k x) (sym (get_or_append_left now (v ∷ []) d k s)) (h k q))
+      | inr q ↦
+          let s : length now ≡ k = omega arith in
+          let t : n ≡ k = omega arith in
+          let at : slice_index_or (now ++ v ∷ []) k d ≡ v = subst (λ (m : ℕ). slice_index_or (now ++ v ∷ []) m d ≡ v) s (get_or-append_seam now v [] d) in
+          subst (λ (x : A). P k x) (sym at) (subst (λ (m : ℕ). P m v) t p)
+    ])

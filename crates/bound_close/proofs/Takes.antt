@@ -125,7 +125,7 @@ pub applied-all : (u : List Atom) (rules : List RuleInst) (r : RuleInst) (places
 applied-all u rules r places rs old new i same e a =
     subst (λ (l : List Diff). Applied u rules r places l old new) (ap (λ (n : ℕ). take n rs) e ∙ take-length rs ∙ same) a
 
-premise-derivable : (u : List Atom) (base : List Diff) (rules : List RuleInst) (T : ℕ → ℕ → ℤ) (p : Diff) → IsOver u p → bound_of u T p ≤ℤ p.c → IsSound u base rules T → Derivable u base rules p.a p.b p.c
+pub premise-derivable : (u : List Atom) (base : List Diff) (rules : List RuleInst) (T : ℕ → ℕ → ℤ) (p : Diff) → IsOver u p → bound_of u T p ≤ℤ p.c → IsSound u base rules T → Derivable u base rules p.a p.b p.c
 premise-derivable u base rules T p o h s =
     let w = o.small in
     let la = place-in u p.a o.left in

@@ -6,5 +6,6 @@ pub mod Marks
 pub mod Over
 pub mod Passes
 pub mod Places
+pub mod Plain
 pub mod Rows
 pub mod Workings

@@ -10,6 +10,7 @@ pub mod over;
 pub mod passes;
 pub mod place;
 pub mod places;
+pub mod plain;
 pub mod push;
 pub mod row;
 pub mod run;

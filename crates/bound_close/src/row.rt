@@ -1,6 +1,6 @@
 // Rows of bounds, and the marks beside them.
-ghost use Rattle.std.specs.Prelude.{◌≡◌, ◌<◌, ◌≤◌, ℕ, length, slice_index_or, ◌+ℤ◌, ◌≤ℤ◌, IfOk};
-ghost use Rattle.std.specs.Int.Signed.{◌<ℤ◌};
+ghost use Rattle.std.specs.Prelude.{◌≡◌, ◌<◌, ◌≤◌, ℕ, length, slice_index_or, ◌+ℤ◌, ◌≤ℤ◌, IfOk, cond};
+ghost use Rattle.std.specs.Int.Signed.{◌<ℤ◌, lt_z};
 ghost use Rattle.bound_close.specs.Rows.{far, cell, step, Range, Within, lowered, unit_bound, AreMarked, mark_of};
 
 use std::alloc::Global;
@@ -49,6 +49,20 @@ impl Row {
         ensures { IfOk result (λ r. r ≡ self.now) }
     {
         let cells = Vec::from_slice(alloc, &self.cells)?;
+        Ok(Row { cells })
+    }
+
+    /// The row in which each bound is lowered to the one by way of the bound at `a`, a constraint with
+    /// right side `c` and a row of further bounds.
+    pub fn by_way(&self, alloc: Global, a: usize, from: &Row, c: i64) -> Result<Row, Memory>
+        requires same { length self.now ≡ length from.now }
+        requires few { Within 8388608 c }
+        requires small { (y : ℕ) → y < length from.now → cell from.now y <ℤ far → Range (cell from.now y) }
+        requires start { cell self.now a <ℤ far → Range (cell self.now a) }
+        ensures len { IfOk result (λ r. length r ≡ length self.now) }
+        ensures each { IfOk result (λ r. (y : ℕ) → y < length self.now → cell r y ≡ lowered a from.now c self.now y) }
+    {
+        let cells = cells_by_way(alloc, &self.cells, a, &from.cells, c)?;
         Ok(Row { cells })
     }
 
@@ -165,4 +179,39 @@ fn marked(old: i64, new: i64, mark: usize, edge: usize) -> usize
     ensures { result ≡ mark_of old new mark edge }
 {
     if new < old { edge } else { mark }
+}
+
+// The lower of a bound and the one by way of another, a constraint and a further bound.
+fn lower_of(start: i64, c: i64, from: i64, old: i64) -> i64
+    requires few { Within 8388608 c }
+    requires start { start <ℤ far → Range start }
+    requires small { from <ℤ far → Range from }
+    ensures { result ≡ cond (lt_z start far) (step (start +ℤ c) from old) old }
+{
+    if start < FAR {
+        improved(old, from, start + c)
+    } else {
+        old
+    }
+}
+
+fn cells_by_way(
+    alloc: Global,
+    cells: &[i64],
+    a: usize,
+    from: &[i64],
+    c: i64,
+) -> Result<Vec<i64>, Memory>
+    requires same { length cells.now ≡ length from.now }
+    requires few { Within 8388608 c }
+    requires small { (y : ℕ) → y < length from.now → cell from.now y <ℤ far → Range (cell from.now y) }
+    requires start { cell cells.now a <ℤ far → Range (cell cells.now a) }
+    ensures len { IfOk result (λ v. length v.items ≡ length cells.now) }
+    ensures each { IfOk result (λ v. (y : ℕ) → y < length cells.now → cell v.items y ≡ lowered a from.now c cells.now y) }
+{
+    let mut new = Vec::new(alloc);
+    for y in 0..cells.len() {
+        new.push(lower_of(cell_at(cells, a), c, cell_at(from, y), cell_at(cells, y)))?;
+    }
+    Ok(new)
 }

@@ -96,7 +96,8 @@ impl Table {
     }
 }
 
-fn new_rows(alloc: Global, size: usize) -> Result<Vec<Row>, Memory>
+/// Rows in which only `x - x <= 0` is known.
+pub fn new_rows(alloc: Global, size: usize) -> Result<Vec<Row>, Memory>
     requires { size ≤ 96 }
     ensures len { IfOk result (λ t. length t.items ≡ size) }
     ensures each { IfOk result (λ t. (x y : ℕ) → x < size → y < size → entry t.items x y ≡ unit_bound x y) }
@@ -133,15 +134,16 @@ fn new_edges(alloc: Global) -> Result<Vec<Edge>, Memory>
     Ok(edges)
 }
 
-// The bound of a pair.
-fn entry_at(rows: &[Row], x: usize, y: usize) -> i64
+/// The bound of a pair of places, or `FAR`. It takes no memory.
+pub fn entry_at(rows: &[Row], x: usize, y: usize) -> i64
     requires { x < length rows.now }
     ensures { result ≡ entry rows.now x y }
 {
     rows[x].get(y)
 }
 
-fn contradicts(rows: &[Row], a: usize, b: usize, c: i64) -> bool
+/// Whether `a - b <= c` contradicts what rows know. It takes no memory.
+pub fn contradicts(rows: &[Row], a: usize, b: usize, c: i64) -> bool
     requires table { IsTable rows.now }
     requires a { a < length rows.now }
     requires b { b < length rows.now }
