@@ -1,34 +1,91 @@
 // Systems made by hand and from a counter, against a plain saturation.
+mod flat;
+mod forward;
 mod made;
-mod plain;
 
 use crate::closure::{Closure, close};
-use crate::order::same_in_any_order;
+use crate::order::{same_answers, same_in_any_order};
 use crate::over::{are_over, are_rules_over};
-use crate::tests::made::{Pair, Premised, at, diff, diffs, rule, var};
-use crate::tests::plain::{FAR, saturated};
+use crate::plain;
+use crate::plain::Plain;
+use crate::tests::flat::{FAR, saturated};
+use crate::tests::forward::System;
+use crate::tests::made::{Pair, Premised, diffs, rule, var};
+use cert_check::check::check;
+use cert_check::refusal::CertRefusal;
+use index_props::certificate::{Cert, Step};
 use index_props::rule::RuleInst;
-use loop_core::nest::Atom;
+use loop_core::copies::copy_atom;
+use loop_core::nest::{Atom, Side, Term};
 use sqlite_items::Items;
 use std::alloc::Global;
 use std::test::Fail;
+use uf_constraints::same::same_atom;
+use uf_constraints::small::are_terms_small;
 use uf_constraints::system::{Diff, Universe};
+use uf_constraints::universe::universe;
 
 fn closed(alloc: Global, u: &Universe, base: &[Diff], rules: &[RuleInst]) -> Result<Closure, Fail> {
-    if !are_over(u.atoms.as_slice(), base) {
-        return Ok(None.ok_or("a constraint isn't over the universe")?);
+    let atoms = u.atoms.as_slice();
+    if !are_over(atoms, base) {
+        return Err("a constraint isn't over the universe".into());
     }
-    if !are_rules_over(u.atoms.as_slice(), rules) {
-        return Ok(None.ok_or("an instance isn't over the universe")?);
+    if !are_rules_over(atoms, rules) {
+        return Err("an instance isn't over the universe".into());
     }
     Ok(close(alloc, u, base, rules)?)
 }
 
-fn universe(atoms: Items<Atom>) -> Result<Universe, Fail> {
-    if atoms.len() > 96 {
-        return Ok(None.ok_or("too many atoms")?);
+fn plainly_closed(
+    alloc: Global,
+    u: &Universe,
+    base: &[Diff],
+    rules: &[RuleInst],
+) -> Result<Plain, Fail> {
+    let atoms = u.atoms.as_slice();
+    if !are_over(atoms, base) {
+        return Err("a constraint isn't over the universe".into());
     }
-    Ok(Universe { atoms })
+    if !are_rules_over(atoms, rules) {
+        return Err("an instance isn't over the universe".into());
+    }
+    Ok(plain::close(alloc, u, base, rules)?)
+}
+
+fn terms(alloc: Global, atoms: &[Atom]) -> Result<Items<Term>, Fail> {
+    let mut terms = Items::new(alloc);
+    for atom in atoms {
+        let atom = copy_atom(alloc, atom)?;
+        terms.push(Term { atom, plus: 0 })?;
+    }
+    Ok(terms)
+}
+
+// The universe of these atoms, which have to begin with 0, n and nnz, each after the atoms inside it.
+fn universe_of(alloc: Global, atoms: &[Atom]) -> Result<Universe, Fail> {
+    let terms = terms(alloc, atoms)?;
+    if !are_terms_small(terms.as_slice()) {
+        return Err("a constant is too large".into());
+    }
+    let Ok(u) = universe(alloc, &[], terms.as_slice(), &[]) else {
+        return Err("no universe".into());
+    };
+    if !same_atoms(atoms, u.atoms.as_slice()) {
+        return Err("the atoms are listed in another order".into());
+    }
+    Ok(u)
+}
+
+fn same_atoms(first: &[Atom], second: &[Atom]) -> bool {
+    for at in 0..first.len() {
+        let Some(other) = second.get(at) else {
+            return false;
+        };
+        if !same_atom(&first[at], other) {
+            return false;
+        }
+    }
+    first.len() == second.len()
 }
 
 // 0, n, nnz and three variables
@@ -113,34 +170,85 @@ fn agree(alloc: Global, closure: &Closure, bounds: &Option<Vec<i64>>) -> Result<
     Ok(none && !closure.empty())
 }
 
+fn agree_plainly(closure: &Closure, plain: &Plain) -> bool {
+    let atoms = closure.universe().atoms.as_slice();
+    for a in atoms {
+        for b in atoms {
+            if closure.bound(a, b) != plain.bound(a, b) {
+                return false;
+            }
+        }
+    }
+    closure.empty() == plain.empty()
+}
+
+/// A system made from a counter, and its least bounds by the flat listing.
+#[derive(Drop)]
+struct Counted {
+    universe: Universe,
+    base: Items<Diff>,
+    turned: Items<Diff>,
+    rules: Items<RuleInst>,
+    bounds: Option<Vec<i64>>,
+}
+
+fn turned(alloc: Global, pairs: &[Pair]) -> Result<Vec<Pair>, Fail> {
+    let mut turned = Vec::new(alloc);
+    for pair in pairs.iter().rev() {
+        turned.push(*pair)?;
+    }
+    Ok(turned)
+}
+
+fn rules_of(alloc: Global, atoms: &[Atom], premised: &[Premised]) -> Result<Items<RuleInst>, Fail> {
+    let mut rules = Items::new(alloc);
+    for one in premised {
+        rules.push(rule(alloc, atoms, one)?)?;
+    }
+    Ok(rules)
+}
+
+fn next_counted(alloc: Global, state: &mut u32) -> Result<Counted, Fail> {
+    let pairs = next_pairs(alloc, state, 9)?;
+    let premised = next_rules(alloc, state)?;
+    let turned = turned(alloc, pairs.as_slice())?;
+    let universe = universe_of(alloc, six(alloc)?.as_slice())?;
+    let base = diffs(alloc, universe.atoms.as_slice(), pairs.as_slice())?;
+    let turned = diffs(alloc, universe.atoms.as_slice(), turned.as_slice())?;
+    let rules = rules_of(alloc, universe.atoms.as_slice(), premised.as_slice())?;
+    let bounds = saturated(alloc, pairs.as_slice(), premised.as_slice())?;
+    Ok(Counted {
+        universe,
+        base,
+        turned,
+        rules,
+        bounds,
+    })
+}
+
+// Whether the closure, that of the base turned round, the plain one and the flat listing agree.
+fn all_agree(alloc: Global, counted: &Counted) -> Result<bool, Fail> {
+    let rules = counted.rules.as_slice();
+    let closure = closed(alloc, &counted.universe, counted.base.as_slice(), rules)?;
+    let other = closed(alloc, &counted.universe, counted.turned.as_slice(), rules)?;
+    let plain = plainly_closed(alloc, &counted.universe, counted.base.as_slice(), rules)?;
+    same_in_any_order(&closure, &other);
+    same_answers(&closure, &plain);
+    let first = agree(alloc, &closure, &counted.bounds)?;
+    let second = agree(alloc, &other, &counted.bounds)?;
+    Ok(first && second && agree_plainly(&closure, &plain))
+}
+
 #[test]
 fn closures_are_plain_saturations(rt: HostRuntime) -> Result<(), Fail> {
-    let alloc = rt.alloc();
     let mut state = 7u32;
     let mut contradictory = 0u32;
     for _ in 0..300 {
-        let pairs = next_pairs(alloc, &mut state, 9)?;
-        let premised = next_rules(alloc, &mut state)?;
-        let u = universe(six(alloc)?)?;
-        let mut rules = Items::new(alloc);
-        for one in &premised {
-            rules.push(rule(alloc, u.atoms.as_slice(), one)?)?;
-        }
-        let base = diffs(alloc, u.atoms.as_slice(), pairs.as_slice())?;
-        let closure = closed(alloc, &u, base.as_slice(), rules.as_slice())?;
-        let bounds = saturated(alloc, pairs.as_slice(), premised.as_slice())?;
-        assert!(rt; agree(alloc, &closure, &bounds)?);
-        if bounds.is_none() {
+        let counted = next_counted(rt.alloc(), &mut state)?;
+        assert!(rt; all_agree(rt.alloc(), &counted)?);
+        if counted.bounds.is_none() {
             contradictory = contradictory.wrapping_add(1);
         }
-        let mut turned = Vec::new(alloc);
-        for pair in pairs.as_slice().iter().rev() {
-            turned.push(*pair)?;
-        }
-        let base = diffs(alloc, u.atoms.as_slice(), turned.as_slice())?;
-        let other = closed(alloc, &u, base.as_slice(), rules.as_slice())?;
-        same_in_any_order(&closure, &other);
-        assert!(rt; agree(alloc, &other, &bounds)?);
     }
     assert!(rt; contradictory > 50 && contradictory < 250);
     Ok(())
@@ -149,7 +257,7 @@ fn closures_are_plain_saturations(rt: HostRuntime) -> Result<(), Fail> {
 #[test]
 fn large_constants_add_up(rt: HostRuntime) -> Result<(), Fail> {
     let alloc = rt.alloc();
-    let u = universe(six(alloc)?)?;
+    let u = universe_of(alloc, six(alloc)?.as_slice())?;
     let atoms = u.atoms.as_slice();
     let mut pairs = Vec::new(alloc);
     for a in 0..5usize {
@@ -172,130 +280,98 @@ fn large_constants_add_up(rt: HostRuntime) -> Result<(), Fail> {
     Ok(())
 }
 
-// 0 <= n, 0 <= nnz, 0 <= i, i < j, j < n, and p from a.ptr[j] up to but not including a.diag[j], with
-// the places of the atoms 0, n, nnz, i, j, a.ptr[j], p, a.diag[j]
-fn read_below(alloc: Global) -> Result<(Items<Atom>, Vec<Pair>), Fail> {
-    let mut atoms = Items::new(alloc);
-    atoms.push(Atom::Zero)?;
-    atoms.push(Atom::N)?;
-    atoms.push(Atom::Nnz)?;
-    atoms.push(var(1))?;
-    atoms.push(var(2))?;
-    atoms.push(at(alloc, 0, var(2), 0)?)?;
-    atoms.push(var(3))?;
-    atoms.push(at(alloc, 2, var(2), 0)?)?;
-    let mut base = Vec::new(alloc);
-    for (a, b, c) in [
-        (0, 1, 0),
-        (0, 2, 0),
-        (0, 3, 0),
-        (3, 4, -1),
-        (4, 1, -1),
-        (5, 6, 0),
-        (6, 7, -1),
-    ] {
-        base.push(Pair { a, b, c })?;
-    }
-    Ok((atoms, base))
+fn forward_closed(alloc: Global, system: &System) -> Result<Closure, Fail> {
+    closed(
+        alloc,
+        &system.universe,
+        system.base.as_slice(),
+        system.rules.as_slice(),
+    )
 }
 
-// a write of x[i] against a read of x[j] in a later row: contradictory where the cells are the same
+// What the check answers of a certificate: the number of the first step that is none, or nothing.
+fn bad_step(alloc: Global, system: &System, cert: &Cert) -> Result<Option<u64>, Fail> {
+    let (base, rules) = (system.base.as_slice(), system.rules.as_slice());
+    match check(alloc, &system.universe, base, rules, cert) {
+        Ok(_) => Ok(None),
+        Err(CertRefusal::BadStep { at }) => Ok(Some(at)),
+        Err(CertRefusal::Memory) => Err("memory is wanting".into()),
+    }
+}
+
+fn relation(alloc: Global, same_cell: bool) -> Result<System, Fail> {
+    match forward::relation(alloc, same_cell) {
+        Some(system) => Ok(system),
+        None => Err("no relation".into()),
+    }
+}
+
+// The system of the bracket, and the column that is read.
+fn bracket(alloc: Global) -> Result<(System, Atom), Fail> {
+    let (Some(system), Some(column)) = (forward::bracket(alloc), forward::column(alloc)) else {
+        return Err("no bracket".into());
+    };
+    Ok((system, column))
+}
+
+// Whether a closure has a refutation that passes the check.
+fn is_refuted(alloc: Global, system: &System, closure: &Closure) -> Result<bool, Fail> {
+    match closure.refutation(alloc)? {
+        Some(cert) => Ok(bad_step(alloc, system, &cert)?.is_none()),
+        None => Ok(false),
+    }
+}
+
+// a write of x[i] against a read of x[i] in a later row: contradictory where the cells are the same
 #[test]
 fn cells_of_two_rows_differ(rt: HostRuntime) -> Result<(), Fail> {
     let alloc = rt.alloc();
-    let (atoms, mut pairs) = read_below(alloc)?;
-    let u = universe(atoms)?;
-    let base = diffs(alloc, u.atoms.as_slice(), pairs.as_slice())?;
-    let apart = closed(alloc, &u, base.as_slice(), &[])?;
+    let system = relation(alloc, false)?;
+    let apart = forward_closed(alloc, &system)?;
     assert!(rt; !apart.empty());
-    assert!(rt; apart.refutation(alloc)?.is_none());
-    assert_eq!(rt; apart.bound(&var(1), &Atom::N), Some(-2));
-    pairs.push(Pair { a: 3, b: 4, c: 0 })?;
-    pairs.push(Pair { a: 4, b: 3, c: 0 })?;
-    let base = diffs(alloc, u.atoms.as_slice(), pairs.as_slice())?;
-    let same = closed(alloc, &u, base.as_slice(), &[])?;
+    assert!(rt; !is_refuted(alloc, &system, &apart)?);
+    let system = relation(alloc, true)?;
+    let same = forward_closed(alloc, &system)?;
     assert!(rt; same.empty());
-    assert!(rt; same.refutation(alloc)?.is_some());
+    assert!(rt; is_refuted(alloc, &system, &same)?);
     Ok(())
 }
 
-// the places of 0, n, nnz, i, a.ptr[i], p, a.diag[i], a.col[p], a.col[a.diag[i]], a.ptr[i+1]
-fn bracket(alloc: Global) -> Result<Items<Atom>, Fail> {
-    let mut atoms = Items::new(alloc);
-    atoms.push(Atom::Zero)?;
-    atoms.push(Atom::N)?;
-    atoms.push(Atom::Nnz)?;
-    atoms.push(var(1))?;
-    atoms.push(at(alloc, 0, var(1), 0)?)?;
-    atoms.push(var(2))?;
-    atoms.push(at(alloc, 2, var(1), 0)?)?;
-    atoms.push(at(alloc, 1, var(2), 0)?)?;
-    atoms.push(at(alloc, 1, at(alloc, 2, var(1), 0)?, 0)?)?;
-    atoms.push(at(alloc, 0, var(1), 1)?)?;
-    Ok(atoms)
+// The certificate with a last step that adds itself to another one in place of its last step.
+fn naming_itself(mut cert: Cert) -> Result<(Cert, u64), Fail> {
+    cert.steps.pop();
+    let last = cert.steps.len() as u64;
+    cert.steps.push(Step::Sum(0, last))?;
+    Ok((cert, last))
 }
 
-// What `range`, `sorted` and `diagonal` give at these atoms: the pointers lie from 0 to nnz; the
-// diagonal entry of row i lies in its segment and holds i; the entries of a segment rise.
-fn bracket_rules(alloc: Global) -> Result<Vec<Premised>, Fail> {
-    let row = [(0, 3, 0), (3, 1, 0), (0, 3, 1), (3, 1, -1)];
-    let segment = [
-        (4, 5, 0),
-        (5, 9, -1),
-        (0, 5, 0),
-        (5, 2, -1),
-        (4, 6, 0),
-        (6, 9, -1),
-        (0, 6, 0),
-        (6, 2, -1),
-        (0, 3, 0),
-        (3, 1, 0),
-        (0, 3, 1),
-        (3, 1, -1),
-        (5, 6, -1),
-    ];
-    let mut rules = Vec::new(alloc);
-    rules.push(Premised::of(alloc, &[(0, 3, 0), (3, 1, 0)], &[(0, 4, 0), (4, 2, 0)])?)?;
-    rules.push(Premised::of(alloc, &[(0, 3, 1), (3, 1, -1)], &[(0, 9, 0), (9, 2, 0)])?)?;
-    rules.push(Premised::of(alloc, &segment, &[(7, 8, -1)])?)?;
-    rules.push(Premised::of(alloc, &row, &[(4, 6, 0), (6, 9, -1), (8, 3, 0), (3, 8, 0)])?)?;
-    Ok(rules)
+// Whether the certificate passes the check, and is refused at its last step where that names itself.
+fn is_checked(alloc: Global, system: &System, cert: Cert) -> Result<bool, Fail> {
+    if bad_step(alloc, system, &cert)?.is_some() {
+        return Ok(false);
+    }
+    let (turned, at) = naming_itself(cert)?;
+    Ok(bad_step(alloc, system, &turned)? == Some(at))
 }
 
-// without `range a.col` the column of an entry left of the diagonal is below n, but not at least 0
+// Without the range of a.col the column of an entry left of the diagonal is below n, by the diagonal's
+// place and the order of a row's columns, but isn't known to be at least 0.
 #[test]
 fn columns_are_bounded_above(rt: HostRuntime) -> Result<(), Fail> {
     let alloc = rt.alloc();
-    let u = universe(bracket(alloc)?)?;
-    let atoms = u.atoms.as_slice();
-    let mut pairs = Vec::new(alloc);
-    for (a, b, c) in [
-        (0, 1, 0),
-        (0, 2, 0),
-        (0, 3, 0),
-        (3, 1, -1),
-        (4, 5, 0),
-        (5, 6, -1),
-    ] {
-        pairs.push(Pair { a, b, c })?;
-    }
-    let mut rules = Items::new(alloc);
-    for one in &bracket_rules(alloc)? {
-        rules.push(rule(alloc, atoms, one)?)?;
-    }
-    let base = diffs(alloc, atoms, pairs.as_slice())?;
-    let closure = closed(alloc, &u, base.as_slice(), rules.as_slice())?;
+    let (system, column) = bracket(alloc)?;
+    let closure = forward_closed(alloc, &system)?;
     assert!(rt; !closure.empty());
-    let column = at(alloc, 1, var(2), 0)?;
     assert_eq!(rt; closure.bound(&column, &Atom::N), Some(-2));
     assert_eq!(rt; closure.bound(&Atom::Zero, &column), None);
-    assert!(rt; closure.proof(alloc, &column, &Atom::N, -1)?.is_some());
     assert!(rt;
         closure
             .proof(alloc, &Atom::Zero, &column, 1_000_000)?
             .is_none()
     );
-    let one = diff(alloc, atoms, &Pair { a: 0, b: 1, c: 0 })?;
-    assert_eq!(rt; one.c, 0);
+    let Some(cert) = closure.proof(alloc, &column, &Atom::N, -1)? else {
+        return Err("no proof".into());
+    };
+    assert!(rt; is_checked(alloc, &system, cert)?);
     Ok(())
 }

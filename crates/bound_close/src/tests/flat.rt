@@ -1,5 +1,5 @@
-// The least bounds between six places by plain saturation: each rule of derivation in turn, over all
-// pairs, until nothing changes.
+// The least bounds between six places, in one flat list and without contracts: each rule of derivation
+// in turn, over all pairs, until nothing changes.
 use crate::tests::made::{Pair, Premised};
 use std::alloc::Global;
 use std::test::Fail;
