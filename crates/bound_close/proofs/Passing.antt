@@ -1,5 +1,5 @@
 -- Passes over the instances that wait.
-use Rattle.std.proofs.Common.{ap, take, ℕ, ℤ, ◌<◌, ◌≤◌, ◌+◌, ◌≡◌, ◌⊎◌, inl, inr, arith, refl, List, [], ◌∷◌, ◌++◌, length, slice_index_or, slice_get, subst, sym, ◌∙◌, Some}
+use Rattle.std.proofs.Common.{ap, take, ℕ, ℤ, ◌<◌, ◌≤◌, ◌+◌, ◌≡◌, ◌⊎◌, inl, inr, arith, refl, List, [], ◌∷◌, ◌++◌, length, slice_index_or, slice_get, subst, sym, ◌∙◌, Some, None}
 use Rattle.std.proofs.lemmas.Bool.{cases_lt}
 use Rattle.std.specs.List.{Contains}
 use Rattle.std.proofs.lemmas.List.{take_more, length-append}
@@ -8,12 +8,15 @@ use Rattle.std.proofs.Math.Seq.{take-length}
 use Rattle.loop_core.specs.declared.nest.Atom.{Atom}
 use Rattle.uf_constraints.specs.declared.system.Diff.{Diff}
 use Rattle.index_props.specs.declared.rule.RuleInst.{RuleInst}
+use Rattle.std.specs.Int.Signed.{◌<ℤ◌}
+use Rattle.bound_close.specs.declared.between.Between.{Between}
 use Rattle.bound_close.specs.declared.waiting.Waiting.{Waiting}
 use Rattle.bound_close.specs.declared.workings.Workings.{Workings}
-use Rattle.bound_close.specs.Exact.{Holds, Fails, IsLower, Settled}
-use Rattle.bound_close.specs.Over.{AreOver, IsRuleOver, AreRulesOver}
-use Rattle.bound_close.specs.Passes.{Forward, Stopped, IsWaiting, ResultsHold, PremiseFails, Stays, Fires, Waits, Passed, AllSettled}
+use Rattle.bound_close.specs.Exact.{bound_of, Holds, Fails, IsLower, Settled}
+use Rattle.bound_close.specs.Over.{IsOver, AreOver, IsRuleOver, AreRulesOver}
+use Rattle.bound_close.specs.Passes.{Forward, Stopped, Watches, IsWaiting, ResultsHold, PremiseFails, Stays, Fires, Waits, Passed, AllSettled}
 use Rattle.bound_close.specs.Workings.{bounds, IsFine}
+use Rattle.bound_close.specs.Places.{place_in}
 use Rattle.bound_close.proofs.Grow.{Holds-lower}
 use Rattle.bound_close.proofs.Takes.{got, got-is, contains-got, over-take, Holds-none, forward-same, forward-trans, stopped-trans}
 
@@ -23,21 +26,36 @@ results-lower u rules mid new k over l h r g = Holds-lower u (bounds mid) (bound
 pub waiting-lower : (u : List Atom) (rules : List RuleInst) (mid new : Workings) (x : Waiting) → AreRulesOver u rules → IsLower (length u) (bounds mid) (bounds new) → IsWaiting u rules mid x → IsWaiting u rules new x
 waiting-lower u rules mid new x over l w = record {
   within = w.within;
+  watched = w.watched;
   held = λ r g. let h = w.held r g in (h.0, Holds-lower u (bounds mid) (bounds new) (take x.premise r.premises) l (over-take u r.premises x.premise (over r (contains-got rules x.rule r g)).premises) h.1);
 }
 
 -- an instance of which a premise fails goes on waiting
-pub stays : (u : List Atom) (rules : List RuleInst) (w : Workings) (x : Waiting) (rr : RuleInst) (open_at : ℕ) (before after : List Waiting) → IsWaiting u rules w x → rr ≡ slice_index_or rules x.rule rr → open_at < length rr.premises → Holds u (bounds w) (take open_at rr.premises) → Fails u (bounds w) rr.premises → after ≡ before ++ record { rule = x.rule; premise = open_at } ∷ [] → Stays u rules w w x.rule before after
-stays u rules w x rr open_at before after q is lt h f e = record {
+pub stays : (u : List Atom) (rules : List RuleInst) (w : Workings) (x : Waiting) (rr : RuleInst) (open_at : ℕ) (p : Between) (before after : List Waiting) → IsWaiting u rules w x → rr ≡ slice_index_or rules x.rule rr → open_at < length rr.premises → Holds u (bounds w) (take open_at rr.premises) → Fails u (bounds w) rr.premises → Watches u rules x.rule p → after ≡ before ++ record { rule = x.rule; premise = open_at; seen = Some p } ∷ [] → Stays u rules w w x.rule before after
+stays u rules w x rr open_at p before after q is lt h f v e = record {
   same = refl;
-  next = record { rule = x.rule; premise = open_at };
+  next = record { rule = x.rule; premise = open_at; seen = Some p };
   rule = refl;
   waits = record {
     within = q.within;
+    watched = λ o e. let same : p ≡ o = cc in subst (λ (o : Between). Watches u rules x.rule o) same v;
     held = λ r g. let same : rr ≡ r = got-is rules x.rule rr r is g in (subst (λ (r : RuleInst). open_at ≤ length r.premises) same (omega arith), subst (λ (r : RuleInst). Holds u (bounds w) (take open_at r.premises)) same h);
   };
   fails = λ r g. let same : rr ≡ r = got-is rules x.rule rr r is g in subst (λ (r : RuleInst). Fails u (bounds w) r.premises) same f;
   list = e;
+}
+
+-- an instance of which the open premise still fails goes on waiting
+pub stays-open : (u : List Atom) (rules : List RuleInst) (w : Workings) (x : Waiting) (before after : List Waiting) → IsWaiting u rules w x → PremiseFails u rules w x.rule → after ≡ before ++ x ∷ [] → Stays u rules w w x.rule before after
+stays-open u rules w x before after q f e = record { same = refl; next = x; rule = refl; waits = q; fails = f; list = e }
+
+-- the premise at a place is watched
+pub watches : (u : List Atom) (rules : List RuleInst) (k i : ℕ) (rr : RuleInst) (d : Diff) (p : Between) → rr ≡ slice_index_or rules k rr → i < length rr.premises → d ≡ slice_index_or rr.premises i d → p.x ≡ place_in u d.a → p.y ≡ place_in u d.b → p.bound ≡ d.c → Watches u rules k p
+watches u rules k i rr d p is lt at ex ey ec = record {
+  fails = λ T h r g.
+      let same : rr ≡ r = got-is rules k rr r is g in
+      let low : d.c <ℤ bound_of u T d = rw (ex, ey, ec) at h in
+      subst (λ (r : RuleInst). Fails u T r.premises) same (d, (i, lt, sym at), low);
 }
 
 pub passed-none : (u : List Atom) (rules : List RuleInst) (w : Workings) (waiting still : List Waiting) → IsFine u w → length still ≡ 0 → Passed u rules w w (take 0 waiting) still
@@ -120,12 +138,13 @@ pub record Saturating (u : List Atom) (rules : List RuleInst) (old w : Workings)
   pub fired : (k : ℕ) → k < length rules → Waits waiting k ⊎ ResultsHold u rules w k
   pub waits : (x : Waiting) → Contains waiting x → IsWaiting u rules w x
 
-pub saturating-first : (u : List Atom) (rules : List RuleInst) (w : Workings) (waiting : List Waiting) → IsFine u w → ((k : ℕ) → k < length rules → Contains waiting record { rule = k; premise = 0 }) → ((x : Waiting) → Contains waiting x → (x.rule < length rules) × (x.premise ≡ 0)) → Saturating u rules w w waiting
+pub saturating-first : (u : List Atom) (rules : List RuleInst) (w : Workings) (waiting : List Waiting) → IsFine u w → ((k : ℕ) → k < length rules → Contains waiting record { rule = k; premise = 0; seen = None }) → ((x : Waiting) → Contains waiting x → (x.rule < length rules) × (x.premise ≡ 0) × (x.seen ≡ None)) → Saturating u rules w w waiting
 saturating-first u rules w waiting f each below = record {
   forward = forward-same u rules w f;
-  fired = λ k l. inl (record { rule = k; premise = 0 }, each k l, refl);
+  fired = λ k l. inl (record { rule = k; premise = 0; seen = None }, each k l, refl);
   waits = λ x h. let b = below x h in record {
     within = b.0;
+    watched = λ p e. absurd (let f = b.2 in cc);
     held = λ r g. (omega arith, subst (λ (n : ℕ). Holds u (bounds w) (take n r.premises)) (sym b.1) (Holds-none u (bounds w) r.premises));
   };
 }
@@ -153,18 +172,18 @@ module _ (u : List Atom) (rules : List RuleInst) (over : AreRulesOver u rules) (
   pub saturating-done : Passed u rules w new waiting still → length still ≡ length waiting → AllSettled u rules new
   saturating-done p e r h = settled_at p e r h.0 h.1 (got rules h.0 r h.1 (sym h.2))
 
-pub below-each : (now new : List Waiting) (n : ℕ) → new ≡ now ++ record { rule = n; premise = 0 } ∷ [] → ((k : ℕ) → k < n → Contains now record { rule = k; premise = 0 }) → (k : ℕ) → k < n + 1 → Contains new record { rule = k; premise = 0 }
+pub below-each : (now new : List Waiting) (n : ℕ) → new ≡ now ++ record { rule = n; premise = 0; seen = None } ∷ [] → ((k : ℕ) → k < n → Contains now record { rule = k; premise = 0; seen = None }) → (k : ℕ) → k < n + 1 → Contains new record { rule = k; premise = 0; seen = None }
 below-each now new n e h k l =
-    let x : Waiting = record { rule = n; premise = 0 } in
-    let y : Waiting = record { rule = k; premise = 0 } in
+    let x : Waiting = record { rule = n; premise = 0; seen = None } in
+    let y : Waiting = record { rule = k; premise = 0; seen = None } in
     elim (cases_lt k n) [
       | inl lt ↦ rw e (Contains-append_left now (x ∷ []) y (h k lt))
-      | inr ge ↦ (let same : n ≡ k = omega arith in rw e (subst (λ (k : ℕ). Contains (now ++ x ∷ []) record { rule = k; premise = 0 }) same (Contains-push now x)))
+      | inr ge ↦ (let same : n ≡ k = omega arith in rw e (subst (λ (k : ℕ). Contains (now ++ x ∷ []) record { rule = k; premise = 0; seen = None }) same (Contains-push now x)))
     ]
 
-pub below-all : (now new : List Waiting) (n : ℕ) → new ≡ now ++ record { rule = n; premise = 0 } ∷ [] → ((x : Waiting) → Contains now x → (x.rule < n) × (x.premise ≡ 0)) → (x : Waiting) → Contains new x → (x.rule < n + 1) × (x.premise ≡ 0)
+pub below-all : (now new : List Waiting) (n : ℕ) → new ≡ now ++ record { rule = n; premise = 0; seen = None } ∷ [] → ((x : Waiting) → Contains now x → (x.rule < n) × (x.premise ≡ 0) × (x.seen ≡ None)) → (x : Waiting) → Contains new x → (x.rule < n + 1) × (x.premise ≡ 0) × (x.seen ≡ None)
 below-all now new n e h x c =
-    elim (Contains-push_cases now record { rule = n; premise = 0 } x (rw e at c)) [
-      | inl q ↦ (let b = h x q in (let l = b.0 in omega arith, b.1))
-      | inr q ↦ subst (λ (x : Waiting). (x.rule < n + 1) × (x.premise ≡ 0)) q (omega arith, refl)
+    elim (Contains-push_cases now record { rule = n; premise = 0; seen = None } x (rw e at c)) [
+      | inl q ↦ (let b = h x q in (let l = b.0 in omega arith, b.1, b.2))
+      | inr q ↦ subst (λ (x : Waiting). (x.rule < n + 1) × (x.premise ≡ 0) × (x.seen ≡ None)) q (omega arith, refl, refl)
     ]

@@ -1,11 +1,13 @@
 -- How a table and its steps take in a base, an instance, and a list of instances that wait.
-use Rattle.std.specs.Prelude.{ℕ, true, ◌≡◌, ◌<◌, ◌≤◌, ◌⊎◌, ◌++◌, ◌∷◌, List, [], length, take, slice_get, Some}
+use Rattle.std.specs.Prelude.{ℕ, ℤ, true, ◌≡◌, ◌<◌, ◌≤◌, ◌⊎◌, ◌++◌, ◌∷◌, List, [], length, take, slice_get, Some}
+use Rattle.std.specs.Int.Signed.{◌<ℤ◌}
 use Rattle.std.specs.List.{Contains}
 use Rattle.loop_core.specs.declared.nest.Atom.{Atom}
 use Rattle.uf_constraints.specs.declared.system.Diff.{Diff}
 use Rattle.index_props.specs.declared.rule.RuleInst.{RuleInst}
 use Rattle.index_props.specs.Derivable.{Derivable}
 use Rattle.index_props.specs.Certificate.{named}
+use Rattle.bound_close.specs.declared.between.Between.{Between}
 use Rattle.bound_close.specs.declared.waiting.Waiting.{Waiting}
 use Rattle.bound_close.specs.declared.workings.Workings.{Workings}
 use Rattle.bound_close.specs.Exact.{Holds, Fails, IsLower, IsSound, Settled}
@@ -42,9 +44,14 @@ pub record Forward (u : List Atom) (rules : List RuleInst) (old new : Workings) 
 abbrev pub Stopped : List Atom → List RuleInst → Workings → Workings → Type 0
 Stopped u rules old new = (base : List Diff) → Halted u base rules old new
 
--- the premises of the instance before that one hold
+-- where the bound between two places is above a right side, a premise of the instance fails
+pub record Watches (u : List Atom) (rules : List RuleInst) (k : ℕ) (p : Between) : Type 0 where
+  pub fails : (T : ℕ → ℕ → ℤ) → p.bound <ℤ T p.x p.y → (r : RuleInst) → slice_get rules k ≡ Some r → Fails u T r.premises
+
+-- the premises of the instance before that one hold, and its open premise is watched
 pub record IsWaiting (u : List Atom) (rules : List RuleInst) (w : Workings) (x : Waiting) : Type 0 where
   pub within : x.rule < length rules
+  pub watched : (p : Between) → x.seen ≡ Some p → Watches u rules x.rule p
   pub held : (r : RuleInst) → slice_get rules x.rule ≡ Some r → (x.premise ≤ length r.premises) × Holds u (bounds w) (take x.premise r.premises)
 
 abbrev pub ResultsHold : List Atom → List RuleInst → Workings → ℕ → Type 0
