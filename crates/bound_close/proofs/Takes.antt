@@ -1,0 +1,175 @@
+-- A base and the results of an instance, taken in one after another.
+use Rattle.std.proofs.Common.{ap, take, drop, ℕ, ℤ, pos, zero, suc, ◌<◌, ◌≤◌, ◌+◌, ◌^◌, ◌≡◌, ◌⊎◌, inl, inr, arith, refl, List, [], ◌∷◌, ◌++◌, length, slice_index_or, slice_get, subst, sym, ◌∙◌, Some, true, unsigned_abs}
+use Rattle.std.specs.Prelude.{◌+ℤ◌, ◌≤ℤ◌, Result, Ok, Err, IfOk}
+use Rattle.std.specs.Int.Signed.{◌<ℤ◌}
+use Rattle.std.specs.List.{Contains}
+use Rattle.std.proofs.lemmas.Int.{ints}
+use Rattle.std.proofs.lemmas.List.{take_more, take-append-drop}
+use Rattle.std.proofs.lemmas.List.Elements.{Contains-push_cases, Contains-append_left}
+use Rattle.std.proofs.lemmas.Option.{slice_get_within, get_or_from_slice_get}
+use Rattle.std.proofs.Math.Seq.{take-length}
+use Rattle.loop_core.specs.declared.nest.Atom.{Atom}
+use Rattle.uf_constraints.specs.declared.system.Diff.{Diff}
+use Rattle.index_props.specs.declared.rule.RuleInst.{RuleInst}
+use Rattle.index_props.specs.declared.certificate.Step.{Step}
+use Rattle.index_props.specs.declared.certificate.Step.TheVariants.{Base, Rule}
+use Rattle.index_props.specs.Derivable.{Derivable}
+use Rattle.index_props.specs.Derivable.Derivable.{given, weaker, fired}
+use Rattle.index_props.specs.Certificate.{conclusion, named}
+use Rattle.bound_close.specs.declared.workings.Workings.{Workings}
+use Rattle.bound_close.specs.Exact.{bound_of, Holds, IsLower, IsSound}
+use Rattle.bound_close.specs.Log.{Naming}
+use Rattle.bound_close.specs.Over.{IsOver, AreOver, IsRuleOver, AreRulesOver}
+use Rattle.bound_close.specs.Passes.{Taken, Ready, Applied, Forward, Stopped, ResultsHold}
+use Rattle.bound_close.specs.Places.{place_in, atom_at}
+use Rattle.bound_close.specs.Rows.{far}
+use Rattle.bound_close.specs.Workings.{bounds, IsFine, Kept, Onward, Halted, Grown, Clashes, Refuted}
+use Rattle.bound_close.proofs.Atoms.{place-in, place-is}
+use Rattle.bound_close.proofs.Emits.{edges-left}
+use Rattle.bound_close.proofs.Grow.{lower-refl, lower-trans, Holds-lower}
+use Rattle.bound_close.proofs.Named.{named-left}
+
+pub got : {X : Type 0} (xs : List X) (i : ℕ) (d : X) → i < length xs → d ≡ slice_index_or xs i d → slice_get xs i ≡ Some d
+got [] i d l e = absurd (omega arith)
+got (x ∷ xs) zero d l e = ap Some (sym e)
+got (x ∷ xs) (suc i) d l e = got xs i d (omega arith) e
+
+pub got-is : {X : Type 0} (xs : List X) (i : ℕ) (d r : X) → d ≡ slice_index_or xs i d → slice_get xs i ≡ Some r → d ≡ r
+got-is xs i d r e h = e ∙ get_or_from_slice_get xs i r d h
+
+pub contains-got : {X : Type 0} (xs : List X) (k : ℕ) (x : X) → slice_get xs k ≡ Some x → Contains xs x
+contains-got xs k x h = (k, slice_get_within xs k x h, get_or_from_slice_get xs k x x h)
+
+pub Contains-take : {X : Type 0} (xs : List X) (i : ℕ) (x : X) → Contains (take i xs) x → Contains xs x
+Contains-take xs i x h = subst (λ l. Contains l x) (take-append-drop i xs) (Contains-append_left (take i xs) (drop i xs) x h)
+
+pub over-take : (u : List Atom) (ds : List Diff) (i : ℕ) → AreOver u ds → AreOver u (take i ds)
+over-take u ds i o d h = o d (Contains-take ds i d h)
+
+pub Holds-more : (u : List Atom) (T : ℕ → ℕ → ℤ) (ds : List Diff) (i : ℕ) (e : Diff) → i < length ds → Holds u T (take i ds) → bound_of u T e ≤ℤ e.c → e ≡ slice_index_or ds i e → Holds u T (take (i + 1) ds)
+Holds-more u T ds i e lt h x is d p =
+    elim (Contains-push_cases (take i ds) (slice_index_or ds i e) d (subst (λ (l : List Diff). Contains l d) (take_more ds i e lt) p)) [
+      | inl q ↦ h d q
+      | inr q ↦ subst (λ (d : Diff). bound_of u T d ≤ℤ d.c) (is ∙ q) x
+    ]
+
+pub Holds-all : (u : List Atom) (T : ℕ → ℕ → ℤ) (ds : List Diff) (i : ℕ) → i ≡ length ds → Holds u T (take i ds) → Holds u T ds
+Holds-all u T ds i e h = subst (λ (l : List Diff). Holds u T l) (ap (λ (n : ℕ). take n ds) e ∙ take-length ds) h
+
+pub Holds-none : (u : List Atom) (T : ℕ → ℕ → ℤ) (ds : List Diff) → Holds u T (take 0 ds)
+Holds-none u T ds d h = absurd (let l = h.1 in omega arith)
+
+pub if-ok-map : {X E : Type 0} (r : Result X E) (P R : X → Type 0) → IfOk r P → ((x : X) → P x → R x) → IfOk r R
+if-ok-map (Ok x) P R p f = f x p
+if-ok-map (Err e) P R p f = tt
+
+-- a base
+module _ (u : List Atom) (base : List Diff) (over : AreOver u base) (old mid new : Workings) (i : ℕ) (d : Diff) (lt : i < length base) (is : d ≡ slice_index_or base i d) where
+  kept-next : (rules : List RuleInst) → Kept u base rules mid → Grown u mid new d (Base i) → Kept u base rules new
+  kept-next rules k g =
+      let r = g.longer base rules k.logged.0 k.logged.1 k.logged.2 (got base i d lt is) in
+      record { sound = g.sound base rules k.sound (given d (i, lt, sym is)); logged = (k.logged.0 ++ r.0, r.1, r.2) }
+
+  pub base-next : Taken u base (take i base) old mid → Grown u mid new d (Base i) → Taken u base (take (i + 1) base) old new
+  base-next t g = record {
+    fine = g.fine;
+    holds = Holds-more u (bounds new) base i d lt (Holds-lower u (bounds mid) (bounds new) (take i base) g.lower (over-take u base i over) t.holds) g.holds is;
+    onward = λ rules. record {
+      lower = lower-trans (length u) (bounds old) (bounds mid) (bounds new) (t.onward rules).lower g.lower;
+      kept = λ k. kept-next rules ((t.onward rules).kept k) g;
+    };
+  }
+
+  pub base-stop : Taken u base (take i base) old mid → Clashes u mid new d (Base i) → (rules : List RuleInst) → Halted u base rules old new
+  base-stop t c rules k =
+      let m = (t.onward rules).kept k in
+      c base rules m.logged.0 m.sound (given d (i, lt, sym is)) m.logged.1 m.logged.2 (got base i d lt is)
+
+-- the results of an instance
+module _ (u : List Atom) (rules : List RuleInst) (rule : ℕ) (r : RuleInst) (places : List ℕ) (rs : List Diff) (same : rs ≡ r.results) (over : AreOver u rs) (at : slice_get rules rule ≡ Some r) (old mid new : Workings) (i : ℕ) (d : Diff) (lt : i < length rs) (is : d ≡ slice_index_or rs i d) where
+  result_at : slice_get r.results i ≡ Some d
+  result_at = subst (λ (l : List Diff). slice_get l i ≡ Some d) same (got rs i d lt is)
+
+  step_gives : (base ds : List Diff) → named ds r.premises places ≡ true → conclusion u base rules ds (Rule rule i places) ≡ Some d
+  step_gives base ds h = rw (at, h) result_at
+
+  follows : (base : List Diff) → Ready u base rules mid r places → Derivable u base rules d.a d.b d.c
+  follows base q = fired r d (contains-got rules rule r at) q.premises (contains-got r.results i d result_at)
+
+  ready-next : (base : List Diff) → Ready u base rules mid r places → Grown u mid new d (Rule rule i places) → Ready u base rules new r places
+  ready-next base q g =
+      let x = g.longer base rules q.ds q.log q.edges (step_gives base q.ds q.named) in
+      record {
+        sound = g.sound base rules q.sound (follows base q);
+        premises = q.premises;
+        ds = q.ds ++ x.0;
+        log = x.1;
+        edges = x.2;
+        named = named-left q.ds x.0 r.premises places q.named;
+      }
+
+  pub applied-next : Applied u rules r places (take i rs) old mid → Grown u mid new d (Rule rule i places) → Applied u rules r places (take (i + 1) rs) old new
+  applied-next a g = record {
+    fine = g.fine;
+    lower = lower-trans (length u) (bounds old) (bounds mid) (bounds new) a.lower g.lower;
+    holds = Holds-more u (bounds new) rs i d lt (Holds-lower u (bounds mid) (bounds new) (take i rs) g.lower (over-take u rs i over) a.holds) g.holds is;
+    ready = λ base q. ready-next base (a.ready base q) g;
+  }
+
+  pub applied-stop : Applied u rules r places (take i rs) old mid → Clashes u mid new d (Rule rule i places) → (base : List Diff) → Ready u base rules old r places → Refuted u base rules new.steps
+  applied-stop a c base q =
+      let m = a.ready base q in
+      c base rules m.ds m.sound (follows base m) m.log m.edges (step_gives base m.ds m.named)
+
+pub applied-all : (u : List Atom) (rules : List RuleInst) (r : RuleInst) (places : List ℕ) (rs : List Diff) (old new : Workings) (i : ℕ) → rs ≡ r.results → i ≡ length rs → Applied u rules r places (take i rs) old new → Applied u rules r places r.results old new
+applied-all u rules r places rs old new i same e a =
+    subst (λ (l : List Diff). Applied u rules r places l old new) (ap (λ (n : ℕ). take n rs) e ∙ take-length rs ∙ same) a
+
+pub premise-derivable : (u : List Atom) (base : List Diff) (rules : List RuleInst) (T : ℕ → ℕ → ℤ) (p : Diff) → IsOver u p → bound_of u T p ≤ℤ p.c → IsSound u base rules T → Derivable u base rules p.a p.b p.c
+premise-derivable u base rules T p o h s =
+    let w = o.small in
+    let la = place-in u p.a o.left in
+    let lb = place-in u p.b o.right in
+    let d : Derivable u base rules (atom_at u (place_in u p.a)) (atom_at u (place_in u p.b)) (T (place_in u p.a) (place_in u p.b)) = s (place_in u p.a) (place_in u p.b) la lb (omega (arith, ints)) in
+    let e : Derivable u base rules p.a p.b (T (place_in u p.a) (place_in u p.b)) = subst (λ (a : Atom). Derivable u base rules a p.b (T (place_in u p.a) (place_in u p.b))) (place-is u p.a la) (subst (λ (b : Atom). Derivable u base rules (atom_at u (place_in u p.a)) b (T (place_in u p.a) (place_in u p.b))) (place-is u p.b lb) d) in
+    weaker p.a p.b (T (place_in u p.a) (place_in u p.b)) p.c e h
+
+module _ (u : List Atom) (rules : List RuleInst) (r : RuleInst) (places : List ℕ) (old mid new : Workings) (over : IsRuleOver u r) (holds : Holds u (bounds old) r.premises) (table : mid.table ≡ old.table) (n : Naming u old.table.edges.items old.steps mid.steps r.premises places) where
+  ready-first : (base : List Diff) → Kept u base rules old → Ready u base rules mid r places
+  ready-first base k =
+      let x = n.each base rules k.logged.0 k.logged.1 k.logged.2 in
+      record {
+        sound = rw table k.sound;
+        premises = λ p i. premise-derivable u base rules (bounds old) p (over.premises p i) (holds p i) k.sound;
+        ds = k.logged.0 ++ x.0;
+        log = x.1;
+        edges = rw table (edges-left u k.logged.0 x.0 old.table.edges.items k.logged.2);
+        named = x.2;
+      }
+
+  pub fire-forward : Applied u rules r places r.results mid new → Forward u rules old new
+  fire-forward a = record {
+    fine = a.fine;
+    onward = λ base. record {
+      lower = rw table at a.lower;
+      kept = λ k. let q = a.ready base (ready-first base k) in record { sound = q.sound; logged = (q.ds, q.log, q.edges) };
+    };
+  }
+
+  pub fire-stop : ((base : List Diff) → Ready u base rules mid r places → Refuted u base rules new.steps) → Stopped u rules old new
+  fire-stop f base k = f base (ready-first base k)
+
+pub forward-same : (u : List Atom) (rules : List RuleInst) (w : Workings) → IsFine u w → Forward u rules w w
+forward-same u rules w f = record { fine = f; onward = λ base. record { lower = lower-refl (length u) (bounds w); kept = λ k. k } }
+
+pub forward-trans : (u : List Atom) (rules : List RuleInst) (old mid new : Workings) → Forward u rules old mid → Forward u rules mid new → Forward u rules old new
+forward-trans u rules old mid new f g = record {
+  fine = g.fine;
+  onward = λ base. record {
+    lower = lower-trans (length u) (bounds old) (bounds mid) (bounds new) (f.onward base).lower (g.onward base).lower;
+    kept = λ k. (g.onward base).kept ((f.onward base).kept k);
+  };
+}
+
+pub stopped-trans : (u : List Atom) (rules : List RuleInst) (old mid new : Workings) → Forward u rules old mid → Stopped u rules mid new → Stopped u rules old new
+stopped-trans u rules old mid new f s base k = s base ((f.onward base).kept k)

@@ -1,0 +1,9 @@
+use Rattle.std.proofs.Common.{rules, arith, ◌≡◌, ◌<◌, length, subst, sym}
+use Rattle.bound_close.specs.Places.{place_in, atom_at}
+use Rattle.bound_close.proofs.Atoms.{first-place, first-put}
+use Rattle.bound_close.proofs.places.put.Goals as goal
+
+pub returns-then-key-len : goal.returns-then-key-len
+returns-then-key-len c =
+    first-put c.args.atoms.now c.args.table.now.items c.shape-key.result c.place.result (omega arith) c.requires
+    (rw c.place.ensures (first-place c.args.atoms.now c.args.atom.now))

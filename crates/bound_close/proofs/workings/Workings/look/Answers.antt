@@ -1,0 +1,48 @@
+use Rattle.std.proofs.Common.{rules, arith, ap, ◌≡◌, ◌<◌, ◌≤◌, ◌⊎◌, inl, inr, ◌∙◌, ◌++◌, ◌∷◌, [], length, take, slice_get, slice_index_or, Some, List, subst, sym, refl, true, ℕ}
+use Rattle.uf_constraints.specs.declared.system.Diff.{Diff}
+use Rattle.index_props.specs.declared.rule.RuleInst.{RuleInst}
+use Rattle.bound_close.specs.Exact.{Holds, Fails}
+use Rattle.bound_close.specs.Over.{AreOver}
+use Rattle.bound_close.specs.Passes.{ResultsHold, Stays, Fires, Watches}
+use Rattle.bound_close.specs.Workings.{bounds}
+use Rattle.bound_close.proofs.Passing.{stays, watches}
+use Rattle.bound_close.proofs.Takes.{got, got-is, contains-got, Holds-all, if-ok-map}
+use Rattle.bound_close.proofs.workings.Workings.look.Goals as goal
+
+pub first_open-premise-requires-clause-over : goal.first_open-premise-requires-clause-over
+first_open-premise-requires-clause-over c =
+    let at = got c.args.rules.now c.args.waiting.rule c.index-rules-waiting.result c.requires.waits.within c.index-rules-waiting.is in
+    let o = c.requires.over c.index-rules-waiting.result (contains-got c.args.rules.now c.args.waiting.rule c.index-rules-waiting.result at) in
+    subst (λ (l : List Diff). AreOver c.args.atoms.now l) (sym c.as_slice-premises.ensures) o.premises
+
+pub first_open-premise-requires-clause-from : goal.first_open-premise-requires-clause-from
+first_open-premise-requires-clause-from c =
+    let at = got c.args.rules.now c.args.waiting.rule c.index-rules-waiting.result c.requires.waits.within c.index-rules-waiting.is in
+    subst (λ (l : List Diff). c.args.waiting.premise ≤ length l) (sym c.as_slice-premises.ensures) (c.requires.waits.held c.index-rules-waiting.result at).0
+
+pub first_open-premise-requires-clause-held : goal.first_open-premise-requires-clause-held
+first_open-premise-requires-clause-held c =
+    let at = got c.args.rules.now c.args.waiting.rule c.index-rules-waiting.result c.requires.waits.within c.index-rules-waiting.is in
+    subst (λ (l : List Diff). Holds c.args.atoms.now (bounds c.args.self.now) (take c.args.waiting.premise l)) (sym c.as_slice-premises.ensures) (c.requires.waits.held c.index-rules-waiting.result at).1
+
+pub returns-then-premise-premises-clause-visited : goal.returns-then-premise-premises-clause-visited
+returns-then-premise-premises-clause-visited c = λ _.
+    let same = c.as_slice-premises.ensures in
+    let lt : c.first_open-premise.result < length c.index-rules-waiting.result.premises = subst (λ (l : List Diff). c.first_open-premise.result < length l) same c.if-premise-premises.true in
+    let held : Holds c.args.atoms.now (bounds c.args.self.now) (take c.first_open-premise.result c.index-rules-waiting.result.premises) = subst (λ (l : List Diff). Holds c.args.atoms.now (bounds c.args.self.now) (take c.first_open-premise.result l)) same c.first_open-premise.ensures.held in
+    let fails : Fails c.args.atoms.now (bounds c.args.self.now) c.index-rules-waiting.result.premises = subst (λ (l : List Diff). Fails c.args.atoms.now (bounds c.args.self.now) l) same (c.first_open-premise.ensures.open c.if-premise-premises.true) in
+    let list : c.push.new.self.items ≡ c.args.still.now.items ++ record { rule = c.args.waiting.rule; premise = c.first_open-premise.result; seen = Some c.watched.result } ∷ [] = search rules in
+    let at : c.index-premises-premise.result ≡ slice_index_or c.index-rules-waiting.result.premises c.first_open-premise.result c.index-premises-premise.result = subst (λ (l : List Diff). c.index-premises-premise.result ≡ slice_index_or l c.first_open-premise.result c.index-premises-premise.result) same c.index-premises-premise.is in
+    let watch : Watches c.args.atoms.now c.args.rules.now c.args.waiting.rule c.watched.result = watches c.args.atoms.now c.args.rules.now c.args.waiting.rule c.first_open-premise.result c.index-rules-waiting.result c.index-premises-premise.result c.watched.result c.index-rules-waiting.is lt at c.watched.ensures.x c.watched.ensures.y c.watched.ensures.bound in
+    inl (stays c.args.atoms.now c.args.rules.now c.args.self.now c.args.waiting c.index-rules-waiting.result c.first_open-premise.result c.watched.result c.args.still.now.items c.push.new.self.items c.requires.waits c.index-rules-waiting.is lt held fails watch list)
+
+pub fire-requires-clause-holds : goal.fire-requires-clause-holds
+fire-requires-clause-holds c = λ r at.
+    let same : c.as_slice-premises.result.now ≡ r.premises = c.as_slice-premises.ensures ∙ ap (λ (r : RuleInst). r.premises) (got-is c.args.rules.now c.args.waiting.rule c.index-rules-waiting.result r c.index-rules-waiting.is at) in
+    let e : c.first_open-premise.result ≡ length c.as_slice-premises.result.now = (let w = c.first_open-premise.ensures.within in omega arith) in
+    subst (λ (l : List Diff). Holds c.args.atoms.now (bounds c.args.self.now) l) same (Holds-all c.args.atoms.now (bounds c.args.self.now) c.as_slice-premises.result.now c.first_open-premise.result e c.first_open-premise.ensures.held)
+
+pub returns-clause-visited : goal.returns-clause-visited
+returns-clause-visited c =
+    if-ok-map c.fire.result (λ fine. fine ≡ true → ResultsHold c.args.atoms.now c.args.rules.now c.fire.new.self c.args.waiting.rule) (λ fine. fine ≡ true → Stays c.args.atoms.now c.args.rules.now c.args.self.now c.fire.new.self c.args.waiting.rule c.args.still.now.items c.args.still.now.items ⊎ Fires c.args.atoms.now c.args.rules.now c.fire.new.self c.args.waiting.rule c.args.still.now.items c.args.still.now.items) c.fire.ensures.holds
+    (λ fine f t. inr (record { holds = f t; list = refl }))

@@ -1,0 +1,52 @@
+-- What a closure answers.
+use Rattle.std.specs.Prelude.{ℕ, ℤ, negsuc, ◌≤ℤ◌, ◌≡◌, Bool, true, false, List, [], Option, Ok, MatchOption}
+use Rattle.std.specs.List.{Contains}
+use Rattle.loop_core.specs.declared.nest.Atom.{Atom}
+use Rattle.uf_constraints.specs.declared.system.Diff.{Diff}
+use Rattle.index_props.specs.declared.rule.RuleInst.{RuleInst}
+use Rattle.index_props.specs.declared.certificate.Step.{Step}
+use Rattle.index_props.specs.Derivable.{Derivable, IsContradictory}
+use Rattle.index_props.specs.Certificate.{outcome}
+use Rattle.bound_close.specs.declared.workings.Workings.{Workings}
+use Rattle.bound_close.specs.Exact.{IsExact}
+use Rattle.bound_close.specs.Log.{Logged}
+use Rattle.bound_close.specs.Workings.{bounds, IsFine, Refuted}
+
+-- what contracts see of a closure: its universe, what it keeps, and whether it is contradictory
+pub record Found : Type 0 where
+  pub atoms : List Atom
+  pub workings : Workings
+  pub refuted : Bool
+
+-- the table has the least bounds, and the steps show them
+pub record Closed (u : List Atom) (base : List Diff) (rules : List RuleInst) (w : Workings) : Type 0 where
+  pub fine : IsFine u w
+  pub exact : IsExact u base rules (bounds w)
+  pub logged : Logged u base rules w.steps w.table.edges.items
+
+-- k is the closure of this base and these instances over its universe
+pub record IsClosure (k : Found) (base : List Diff) (rules : List RuleInst) : Type 0 where
+  pub found : k.refuted ≡ false → Closed k.atoms base rules k.workings
+  pub refuted : k.refuted ≡ true → Refuted k.atoms base rules k.workings.steps
+
+-- the least bound that is derivable
+pub record IsLeast (u : List Atom) (base : List Diff) (rules : List RuleInst) (a b : Atom) (c : ℤ) : Type 0 where
+  pub derivable : Derivable u base rules a b c
+  pub least : (e : ℤ) → Derivable u base rules a b e → c ≤ℤ e
+
+-- the least bound, and none exactly where none is derivable
+abbrev pub IsBound : List Atom → List Diff → List RuleInst → Atom → Atom → Option ℤ → Type 0
+IsBound u base rules a b answer = MatchOption answer ((c : ℤ) → Derivable u base rules a b c → ⊥) (IsLeast u base rules a b)
+
+-- the steps pass the check, and the last one gives the constraint
+abbrev pub Shows : List Atom → List Diff → List RuleInst → List Step → Atom → Atom → ℤ → Type 0
+Shows u base rules steps a b c = outcome u base rules [] steps ≡ Ok (record { a = a; b = b; c = c })
+
+-- the steps pass the check, and the last one gives `a - a <= -1` for some atom
+abbrev pub ShowsContradiction : List Atom → List Diff → List RuleInst → List Step → Type 0
+ShowsContradiction u base rules steps = (a : Atom) × Shows u base rules steps a a (negsuc 0)
+
+-- the same constraints, in any order and as often as may be
+pub record AreSame (base other : List Diff) : Type 0 where
+  pub there : (d : Diff) → Contains base d → Contains other d
+  pub back : (d : Diff) → Contains other d → Contains base d

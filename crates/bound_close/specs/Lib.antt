@@ -1,0 +1,11 @@
+pub mod Between
+pub mod Closure
+pub mod Exact
+pub mod Log
+pub mod Marks
+pub mod Over
+pub mod Passes
+pub mod Places
+pub mod Plain
+pub mod Rows
+pub mod Workings

@@ -1,0 +1,183 @@
+// Passes over the instances that wait, until none fires.
+ghost use Rattle.std.specs.Prelude.{◌≡◌, ◌<◌, ◌⊎◌, ℕ, List, length, true, false, IfOk};
+ghost use Rattle.std.specs.Int.Signed.{◌<ℤ◌};
+ghost use Rattle.bound_close.specs.Places.{place_in};
+ghost use Rattle.std.specs.List.{Contains};
+
+use crate::between::Between;
+use crate::places::Places;
+use crate::waiting::Waiting;
+use crate::workings::Workings;
+use index_props::rule::RuleInst;
+use std::alloc::Global;
+use uf_constraints::system::Diff;
+use wave_base::types::Memory;
+
+impl Workings {
+    ghost use Rattle.index_props.specs.declared.rule.RuleInst.{RuleInst};
+    ghost use Rattle.loop_core.specs.declared.nest.Atom.{Atom};
+    ghost use Rattle.bound_close.specs.declared.waiting.Waiting.{Waiting};
+    ghost use Rattle.bound_close.specs.Over.{AreOver, AreRulesOver};
+    ghost use Rattle.bound_close.specs.Passes.{Taken, Forward, Stopped, IsWaiting, PremiseFails, Stays, Fires, Passed, AllSettled};
+    ghost use Rattle.bound_close.specs.Workings.{bounds, IsFine, Halted, Onward};
+
+    // Whether the open premise of an instance is known and still fails.
+    fn still_fails(&self, waiting: &Waiting) -> bool
+        ensures { result ≡ true → (atoms : List Atom) (rules : List RuleInst) → IsFine atoms self.now
+            → IsWaiting atoms rules self.now waiting.now → PremiseFails atoms rules self.now waiting.now.rule }
+    {
+        match waiting.seen {
+            Some(seen) => self.is_above(&seen),
+            None => false,
+        }
+    }
+
+    // Whether the bound between two places is above a right side.
+    fn is_above(&self, seen: &Between) -> bool
+        ensures { result ≡ true → seen.now.bound <ℤ bounds self.now seen.now.x seen.now.y }
+    {
+        if seen.x >= self.table.rows.len() {
+            return false;
+        }
+        self.table.get(seen.x, seen.y) > seen.bound
+    }
+
+    // Fires an instance that waits, or puts it at the end of those that still wait, from its open
+    // premise on.
+    fn look(
+        &mut self,
+        alloc: Global,
+        atoms: &Places,
+        rules: &[RuleInst],
+        waiting: Waiting,
+        still: &mut Vec<Waiting>,
+    ) -> Result<bool, Memory>
+        requires fine { IsFine atoms.now self.old }
+        requires over { AreRulesOver atoms.now rules.now }
+        requires waits { IsWaiting atoms.now rules.now self.old waiting }
+        ensures forward { IfOk result (λ fine. fine ≡ true → Forward atoms.now rules.now self.old self.new) }
+        ensures visited { IfOk result (λ fine. fine ≡ true
+            → Stays atoms.now rules.now self.old self.new waiting.rule still.old.items still.new.items
+            ⊎ Fires atoms.now rules.now self.new waiting.rule still.old.items still.new.items) }
+        ensures stopped { IfOk result (λ fine. fine ≡ false → Stopped atoms.now rules.now self.old self.new) }
+    {
+        let instance = &rules[waiting.rule];
+        let premises = instance.premises.as_slice();
+        let premise = self.first_open(atoms, premises, waiting.premise);
+        if premise < premises.len() {
+            still.push(Waiting {
+                rule: waiting.rule,
+                premise,
+                seen: Some(watched(atoms, &premises[premise])),
+            })?;
+            return Ok(true);
+        }
+        self.fire(alloc, atoms, rules, waiting.rule)
+    }
+
+    // Fires an instance that waits, or puts it at the end of those that still wait.
+    fn visit(
+        &mut self,
+        alloc: Global,
+        atoms: &Places,
+        rules: &[RuleInst],
+        waiting: Waiting,
+        still: &mut Vec<Waiting>,
+    ) -> Result<bool, Memory>
+        requires fine { IsFine atoms.now self.old }
+        requires over { AreRulesOver atoms.now rules.now }
+        requires waits { IsWaiting atoms.now rules.now self.old waiting }
+        ensures forward { IfOk result (λ fine. fine ≡ true → Forward atoms.now rules.now self.old self.new) }
+        ensures visited { IfOk result (λ fine. fine ≡ true
+            → Stays atoms.now rules.now self.old self.new waiting.rule still.old.items still.new.items
+            ⊎ Fires atoms.now rules.now self.new waiting.rule still.old.items still.new.items) }
+        ensures stopped { IfOk result (λ fine. fine ≡ false → Stopped atoms.now rules.now self.old self.new) }
+    {
+        if self.still_fails(&waiting) {
+            still.push(waiting)?;
+            return Ok(true);
+        }
+        self.look(alloc, atoms, rules, waiting, still)
+    }
+
+    // Visits each instance that waits.
+    fn pass(
+        &mut self,
+        alloc: Global,
+        atoms: &Places,
+        rules: &[RuleInst],
+        waiting: &[Waiting],
+        still: &mut Vec<Waiting>,
+    ) -> Result<bool, Memory>
+        requires fine { IsFine atoms.now self.old }
+        requires over { AreRulesOver atoms.now rules.now }
+        requires waits { (x : Waiting) → Contains waiting.now x → IsWaiting atoms.now rules.now self.old x }
+        requires still { length still.old.items ≡ 0 }
+        ensures passed { IfOk result (λ fine. fine ≡ true → Passed atoms.now rules.now self.old self.new waiting.now still.new.items) }
+        ensures stopped { IfOk result (λ fine. fine ≡ false → Stopped atoms.now rules.now self.old self.new) }
+    {
+        for entry in waiting {
+            if !self.visit(alloc, atoms, rules, *entry, still)? {
+                return Ok(false);
+            }
+        }
+        Ok(true)
+    }
+
+    /// Fires instances until each has fired or has a premise that doesn't hold; false where they lead
+    /// to a contradiction, and then the last step gives `a - a <= -1`.
+    pub fn saturate(
+        &mut self,
+        alloc: Global,
+        atoms: &Places,
+        rules: &[RuleInst],
+    ) -> Result<bool, Memory>
+        requires fine { IsFine atoms.now self.old }
+        requires over { AreRulesOver atoms.now rules.now }
+        ensures forward { IfOk result (λ fine. fine ≡ true → Forward atoms.now rules.now self.old self.new) }
+        ensures settled { IfOk result (λ fine. fine ≡ true → AllSettled atoms.now rules.now self.new) }
+        ensures stopped { IfOk result (λ fine. fine ≡ false → Stopped atoms.now rules.now self.old self.new) }
+    {
+        let mut waiting = all_below(alloc, rules.len())?;
+        'passes: loop {
+            let mut still = Vec::new(alloc);
+            if !self.pass(alloc, atoms, rules, &waiting, &mut still)? {
+                return Ok(false);
+            }
+            if still.len() == waiting.len() {
+                return Ok(true);
+            }
+            waiting = still;
+        }
+    }
+}
+
+// The places of a constraint, and its right side.
+fn watched(atoms: &Places, diff: &Diff) -> Between
+    ensures x { result.x ≡ place_in atoms.now diff.now.a }
+    ensures y { result.y ≡ place_in atoms.now diff.now.b }
+    ensures bound { result.bound ≡ diff.now.c }
+{
+    let (x, y) = (atoms.place(&diff.a), atoms.place(&diff.b));
+    Between {
+        x,
+        y,
+        bound: diff.c,
+    }
+}
+
+// All instances below a number, of which no premise is known to hold.
+fn all_below(alloc: Global, n: usize) -> Result<Vec<Waiting>, Memory>
+    ensures each { IfOk result (λ v. (k : ℕ) → k < n → Contains v.items (record { rule = k; premise = 0; seen = None })) }
+    ensures below { IfOk result (λ v. (x : Waiting) → Contains v.items x → (x.rule < n) × (x.premise ≡ 0) × (x.seen ≡ None)) }
+{
+    let mut waiting = Vec::new(alloc);
+    for rule in 0..n {
+        waiting.push(Waiting {
+            rule,
+            premise: 0,
+            seen: None,
+        })?;
+    }
+    Ok(waiting)
+}

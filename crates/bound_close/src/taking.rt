@@ -1,0 +1,105 @@
+// How the workings take in a base and the results of an instance.
+ghost use Rattle.std.specs.Prelude.{◌≡◌, ◌<◌, ◌≤◌, length, true, false, IfOk, List, slice_get, take, Some};
+
+use crate::places::Places;
+use crate::way::certify;
+use crate::workings::Workings;
+use index_props::rule::RuleInst;
+use std::alloc::Global;
+use uf_constraints::system::Diff;
+use wave_base::types::Memory;
+
+impl Workings {
+    ghost use Rattle.uf_constraints.specs.declared.system.Diff.{Diff};
+    ghost use Rattle.index_props.specs.declared.rule.RuleInst.{RuleInst};
+    ghost use Rattle.bound_close.specs.Exact.{Holds, Fails};
+    ghost use Rattle.bound_close.specs.Over.{AreOver, AreRulesOver};
+    ghost use Rattle.bound_close.specs.Passes.{Taken, Applied, Ready, Forward, Stopped, ResultsHold};
+    ghost use Rattle.bound_close.specs.Workings.{bounds, IsFine, Halted, Refuted};
+
+    /// Takes in a base; false where it is contradictory, and then the last step gives `a - a <= -1`.
+    pub fn add_base(&mut self, alloc: Global, atoms: &Places, base: &[Diff]) -> Result<bool, Memory>
+        requires fine { IsFine atoms.now self.old }
+        requires over { AreOver atoms.now base.now }
+        ensures taken { IfOk result (λ fine. fine ≡ true → Taken atoms.now base.now base.now self.old self.new) }
+        ensures halted { IfOk result (λ fine. fine ≡ false → (rules : List RuleInst) → Halted atoms.now base.now rules self.old self.new) }
+    {
+        for at in 0..base.len() {
+            if !self.add_given(alloc, atoms, &base[at], at)? {
+                return Ok(false);
+            }
+        }
+        Ok(true)
+    }
+
+    /// The number of the first premise from a place on that doesn't hold, and that of all premises
+    /// where each holds. It takes no memory.
+    pub fn first_open(&self, atoms: &Places, premises: &[Diff], from: usize) -> usize
+        requires fine { IsFine atoms.now self.now }
+        requires over { AreOver atoms.now premises.now }
+        requires from { from ≤ length premises.now }
+        requires held { Holds atoms.now (bounds self.now) (take from premises.now) }
+        ensures within { result ≤ length premises.now }
+        ensures held { Holds atoms.now (bounds self.now) (take result premises.now) }
+        ensures open { result < length premises.now → Fails atoms.now (bounds self.now) premises.now }
+    {
+        for at in from..premises.len() {
+            if !self.knows(atoms, &premises[at]) {
+                return at;
+            }
+        }
+        premises.len()
+    }
+
+    fn add_results(
+        &mut self,
+        alloc: Global,
+        atoms: &Places,
+        rules: &[RuleInst],
+        rule: usize,
+        places: &[u64],
+    ) -> Result<bool, Memory>
+        requires fine { IsFine atoms.now self.old }
+        requires over { AreRulesOver atoms.now rules.now }
+        requires rule { rule < length rules.now }
+        ensures applied { IfOk result (λ fine. fine ≡ true → (r : RuleInst) → slice_get rules.now rule ≡ Some r
+            → Applied atoms.now rules.now r places.now r.results self.old self.new) }
+        ensures refuted { IfOk result (λ fine. fine ≡ false → (r : RuleInst) → slice_get rules.now rule ≡ Some r
+            → (base : List Diff) → Ready atoms.now base rules.now self.old r places.now → Refuted atoms.now base rules.now self.new.steps) }
+    {
+        let instance = &rules[rule];
+        let results = instance.results.as_slice();
+        for at in 0..results.len() {
+            if !self.add_result(alloc, atoms, &results[at], rule, at, places)? {
+                return Ok(false);
+            }
+        }
+        Ok(true)
+    }
+
+    /// Takes in the results of an instance whose premises hold.
+    pub fn fire(
+        &mut self,
+        alloc: Global,
+        atoms: &Places,
+        rules: &[RuleInst],
+        rule: usize,
+    ) -> Result<bool, Memory>
+        requires fine { IsFine atoms.now self.old }
+        requires over { AreRulesOver atoms.now rules.now }
+        requires rule { rule < length rules.now }
+        requires holds { (r : RuleInst) → slice_get rules.now rule ≡ Some r → Holds atoms.now (bounds self.old) r.premises }
+        ensures forward { IfOk result (λ fine. fine ≡ true → Forward atoms.now rules.now self.old self.new) }
+        ensures holds { IfOk result (λ fine. fine ≡ true → ResultsHold atoms.now rules.now self.new rule) }
+        ensures stopped { IfOk result (λ fine. fine ≡ false → Stopped atoms.now rules.now self.old self.new) }
+    {
+        let instance = &rules[rule];
+        let results = instance.results.as_slice();
+        if self.first_open(atoms, results, 0) == results.len() {
+            return Ok(true);
+        }
+        let premises = instance.premises.as_slice();
+        let places = certify(alloc, atoms, &self.table, premises, &mut self.steps)?;
+        self.add_results(alloc, atoms, rules, rule, places.as_slice())
+    }
+}
