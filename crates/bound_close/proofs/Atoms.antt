@@ -17,7 +17,8 @@ use Rattle.loop_core.specs.declared.nest.Atom.TheVariants.{Zero}
 use Rattle.loop_core.specs.declared.nest.Atom.TheOpen.{Atom-F, Term-F}
 use Rattle.loop_core.specs.declared.nest.Atom.TheFolds.{ind-Atom, ind-Term}
 use Rattle.uf_constraints.specs.Same.{same_atom, same_term, same_open, is_listed}
-use Rattle.std.proofs.Common.{slice_set, get_or-set_same, get_or-set_other}
+use Rattle.std.proofs.Common.{slice_set, get_or-set_same, get_or-set_other, replicate}
+use Rattle.std.proofs.lemmas.List.{get_or-replicate, length-replicate}
 use Rattle.std.proofs.lemmas.Bool.{cases_eq}
 use Rattle.std.proofs.lemmas.List.{length-set}
 use Rattle.bound_close.specs.Places.{place_in, atom_at, AreFirst}
@@ -227,3 +228,12 @@ first-put u table k v lt h e i l = elim (cases_eq i k) [
   | inl q ↦ rw q (rw get_or-set_same e)
   | inr ne ↦ rw get_or-set_other (h i (let n = length-set table k v in omega arith))
 ]
+
+-- a table that knows no place
+none_at : (u : List Atom) (n : ℕ) → AreFirst u (replicate n (length u))
+none_at u n k within below =
+    let there : slice_index_or (replicate n (length u)) k 0 ≡ length u = get_or-replicate n k (length u) 0 (let e = length-replicate n (length u) in omega arith) in
+    absurd (omega (arith, below, there))
+
+pub none_first : (u : List Atom) (n : ℕ) (table : List ℕ) → table ≡ replicate n (length u) → AreFirst u table
+none_first u n table is = subst (AreFirst u) (sym is) (none_at u n)

@@ -1,5 +1,5 @@
 // Lists of atoms in which the place of an atom is found by its shape.
-ghost use Rattle.std.specs.Prelude.{◌≡◌, ◌<◌, length, IfOk};
+ghost use Rattle.std.specs.Prelude.{◌≡◌, ◌<◌, length, replicate, IfOk};
 ghost use Rattle.bound_close.specs.Places.{place_in, atom_at, AreFirst};
 
 use crate::copy::copy_atoms;
@@ -67,37 +67,43 @@ impl Places {
     }
 }
 
-// A number below 512 for the shape of an atom.
+// A number for the shape of an atom, which few atoms share.
 fn shape(atom: &Atom) -> u64 {
     match atom {
         Atom::Zero => 1,
         Atom::N => 2,
         Atom::Nnz => 3,
-        Atom::Var(var) => side(var.side).wrapping_add(u64::from(var.line).wrapping_mul(37)) % 512,
+        Atom::Var(var) => side(var.side).wrapping_add(u64::from(var.line).wrapping_mul(256)),
         Atom::At(array, inner) => {
             let term = inner.get();
-            let within = shape(&term.atom).wrapping_add(term.plus.cast_unsigned());
-            within
-                .wrapping_mul(131)
-                .wrapping_add(u64::from(array.0).wrapping_mul(17))
-                % 512
+            let within = shape(&term.atom).wrapping_add(term.plus.cast_unsigned().wrapping_mul(7));
+            mixed(within).wrapping_add(u64::from(array.0))
         }
     }
 }
 
 fn side(side: Side) -> u64 {
     match side {
-        Side::Own => 5,
-        Side::First => 181,
-        Side::Second => 347,
+        Side::Own => 4,
+        Side::First => 5,
+        Side::Second => 6,
     }
 }
 
-fn held(atoms: &[Atom], table: &[usize], key: u64) -> usize
+// The odd number next to 2^64 divided by the golden ratio spreads neighbours over all 64 bits.
+fn mixed(number: u64) -> u64 {
+    number.wrapping_mul(0x9E37_79B9_7F4A_7C15)
+}
+
+// A place below 4096 in the table.
+fn key(atom: &Atom) -> usize {
+    (mixed(shape(atom)) >> 52) as usize
+}
+
+fn held(atoms: &[Atom], table: &[usize], key: usize) -> usize
     requires { AreFirst atoms.now table.now }
     ensures { result < length atoms.now → place_in atoms.now (atom_at atoms.now result) ≡ result }
 {
-    let key = key as usize;
     if key < table.len() {
         table[key]
     } else {
@@ -109,7 +115,7 @@ fn find(atoms: &[Atom], table: &[usize], atom: &Atom) -> usize
     requires { AreFirst atoms.now table.now }
     ensures { result ≡ place_in atoms.now atom.now }
 {
-    let at = held(atoms, table, shape(atom));
+    let at = held(atoms, table, key(atom));
     if at < atoms.len() {
         if same_atom(atom, &atoms[at]) {
             return at;
@@ -122,16 +128,23 @@ fn put(atoms: &[Atom], table: &mut Vec<usize>, atom: &Atom)
     requires { AreFirst atoms.now table.old.items }
     ensures { AreFirst atoms.now table.new.items }
 {
-    let key = shape(atom) as usize;
+    let key = key(atom);
     if key < table.len() {
         table[key] = place(atoms, atom);
     }
 }
 
+// A table of so many numbers, none of which is a place.
+fn blank(alloc: Global, atoms: &[Atom], many: usize) -> Result<Vec<usize>, Memory>
+    ensures { IfOk result (λ t. t.items ≡ replicate many (length atoms.now)) }
+{
+    Ok(vec![in alloc; atoms.len(); many]?)
+}
+
 fn table(alloc: Global, atoms: &[Atom]) -> Result<Vec<usize>, Memory>
     ensures { IfOk result (λ t. AreFirst atoms.now t.items) }
 {
-    let mut table = vec![in alloc; atoms.len(); 512]?;
+    let mut table = blank(alloc, atoms, 4096)?;
     for atom in atoms {
         put(atoms, &mut table, atom);
     }
