@@ -63,11 +63,12 @@ impl Workings {
     {
         let instance = &rules[waiting.rule];
         let premises = instance.premises.as_slice();
-        let premise = self.first_open(atoms, premises, waiting.premise);
+        let found = self.open_from(atoms, premises, waiting.premise);
+        let premise = found.at;
         if premise < premises.len() {
             still.push(Waiting {
                 rule: waiting.rule,
-                premise,
+                premise: found.held,
                 seen: Some(watched(atoms, &premises[premise])),
             })?;
             return Ok(true);

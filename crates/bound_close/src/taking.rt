@@ -9,6 +9,13 @@ use std::alloc::Global;
 use uf_constraints::system::Diff;
 use wave_base::types::Memory;
 
+/// A premise at a place, with the number of those from the first on that are known to hold.
+#[derive(Clone, Copy, Debug)]
+pub struct Opening {
+    pub held: usize,
+    pub at: usize,
+}
+
 impl Workings {
     ghost use Rattle.uf_constraints.specs.declared.system.Diff.{Diff};
     ghost use Rattle.index_props.specs.declared.rule.RuleInst.{RuleInst};
@@ -49,6 +56,32 @@ impl Workings {
             }
         }
         premises.len()
+    }
+
+    /// A premise that doesn't hold: the last one, or else the first from a place on. The last one of
+    /// most lines of the table of rules compares the two entries, and seldom holds.
+    pub fn open_from(&self, atoms: &Places, premises: &[Diff], from: usize) -> Opening
+        requires fine { IsFine atoms.now self.now }
+        requires over { AreOver atoms.now premises.now }
+        requires from { from ≤ length premises.now }
+        requires held { Holds atoms.now (bounds self.now) (take from premises.now) }
+        ensures within { result.at ≤ length premises.now }
+        ensures held { Holds atoms.now (bounds self.now) (take result.held premises.now) }
+        ensures fails { result.at < length premises.now → Fails atoms.now (bounds self.now) premises.now }
+        ensures few { result.at < length premises.now → result.held < length premises.now }
+        ensures all { result.at ≡ length premises.now → result.held ≡ length premises.now }
+    {
+        if from < premises.len() {
+            let last = premises.len() - 1;
+            if !self.knows(atoms, &premises[last]) {
+                return Opening {
+                    held: from,
+                    at: last,
+                };
+            }
+        }
+        let at = self.first_open(atoms, premises, from);
+        Opening { held: at, at }
     }
 
     fn add_results(

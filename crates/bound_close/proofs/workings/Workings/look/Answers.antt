@@ -9,38 +9,39 @@ use Rattle.bound_close.proofs.Passing.{stays, watches}
 use Rattle.bound_close.proofs.Takes.{got, got-is, contains-got, Holds-all, if-ok-map}
 use Rattle.bound_close.proofs.workings.Workings.look.Goals as goal
 
-pub first_open-premise-requires-clause-over : goal.first_open-premise-requires-clause-over
-first_open-premise-requires-clause-over c =
+pub open_from-found-requires-clause-over : goal.open_from-found-requires-clause-over
+open_from-found-requires-clause-over c =
     let at = got c.args.rules.now c.args.waiting.rule c.index-rules-waiting.result c.requires.waits.within c.index-rules-waiting.is in
     let o = c.requires.over c.index-rules-waiting.result (contains-got c.args.rules.now c.args.waiting.rule c.index-rules-waiting.result at) in
     subst (λ (l : List Diff). AreOver c.args.atoms.now l) (sym c.as_slice-premises.ensures) o.premises
 
-pub first_open-premise-requires-clause-from : goal.first_open-premise-requires-clause-from
-first_open-premise-requires-clause-from c =
+pub open_from-found-requires-clause-from : goal.open_from-found-requires-clause-from
+open_from-found-requires-clause-from c =
     let at = got c.args.rules.now c.args.waiting.rule c.index-rules-waiting.result c.requires.waits.within c.index-rules-waiting.is in
     subst (λ (l : List Diff). c.args.waiting.premise ≤ length l) (sym c.as_slice-premises.ensures) (c.requires.waits.held c.index-rules-waiting.result at).0
 
-pub first_open-premise-requires-clause-held : goal.first_open-premise-requires-clause-held
-first_open-premise-requires-clause-held c =
+pub open_from-found-requires-clause-held : goal.open_from-found-requires-clause-held
+open_from-found-requires-clause-held c =
     let at = got c.args.rules.now c.args.waiting.rule c.index-rules-waiting.result c.requires.waits.within c.index-rules-waiting.is in
     subst (λ (l : List Diff). Holds c.args.atoms.now (bounds c.args.self.now) (take c.args.waiting.premise l)) (sym c.as_slice-premises.ensures) (c.requires.waits.held c.index-rules-waiting.result at).1
 
 pub returns-then-premise-premises-clause-visited : goal.returns-then-premise-premises-clause-visited
 returns-then-premise-premises-clause-visited c = λ _.
     let same = c.as_slice-premises.ensures in
-    let lt : c.first_open-premise.result < length c.index-rules-waiting.result.premises = subst (λ (l : List Diff). c.first_open-premise.result < length l) same c.if-premise-premises.true in
-    let held : Holds c.args.atoms.now (bounds c.args.self.now) (take c.first_open-premise.result c.index-rules-waiting.result.premises) = subst (λ (l : List Diff). Holds c.args.atoms.now (bounds c.args.self.now) (take c.first_open-premise.result l)) same c.first_open-premise.ensures.held in
-    let fails : Fails c.args.atoms.now (bounds c.args.self.now) c.index-rules-waiting.result.premises = subst (λ (l : List Diff). Fails c.args.atoms.now (bounds c.args.self.now) l) same (c.first_open-premise.ensures.open c.if-premise-premises.true) in
-    let list : c.push.new.self.items ≡ c.args.still.now.items ++ record { rule = c.args.waiting.rule; premise = c.first_open-premise.result; seen = Some c.watched.result } ∷ [] = search rules in
-    let at : c.index-premises-premise.result ≡ slice_index_or c.index-rules-waiting.result.premises c.first_open-premise.result c.index-premises-premise.result = subst (λ (l : List Diff). c.index-premises-premise.result ≡ slice_index_or l c.first_open-premise.result c.index-premises-premise.result) same c.index-premises-premise.is in
-    let watch : Watches c.args.atoms.now c.args.rules.now c.args.waiting.rule c.watched.result = watches c.args.atoms.now c.args.rules.now c.args.waiting.rule c.first_open-premise.result c.index-rules-waiting.result c.index-premises-premise.result c.watched.result c.index-rules-waiting.is lt at c.watched.ensures.x c.watched.ensures.y c.watched.ensures.bound in
-    inl (stays c.args.atoms.now c.args.rules.now c.args.self.now c.args.waiting c.index-rules-waiting.result c.first_open-premise.result c.watched.result c.args.still.now.items c.push.new.self.items c.requires.waits c.index-rules-waiting.is lt held fails watch list)
+    let lt : c.open_from-found.result.at < length c.index-rules-waiting.result.premises = subst (λ (l : List Diff). c.open_from-found.result.at < length l) same c.if-premise-premises.true in
+    let few : c.open_from-found.result.held < length c.index-rules-waiting.result.premises = subst (λ (l : List Diff). c.open_from-found.result.held < length l) same (c.open_from-found.ensures.few c.if-premise-premises.true) in
+    let held : Holds c.args.atoms.now (bounds c.args.self.now) (take c.open_from-found.result.held c.index-rules-waiting.result.premises) = subst (λ (l : List Diff). Holds c.args.atoms.now (bounds c.args.self.now) (take c.open_from-found.result.held l)) same c.open_from-found.ensures.held in
+    let fails : Fails c.args.atoms.now (bounds c.args.self.now) c.index-rules-waiting.result.premises = subst (λ (l : List Diff). Fails c.args.atoms.now (bounds c.args.self.now) l) same (c.open_from-found.ensures.fails c.if-premise-premises.true) in
+    let list : c.push.new.self.items ≡ c.args.still.now.items ++ record { rule = c.args.waiting.rule; premise = c.open_from-found.result.held; seen = Some c.watched.result } ∷ [] = search rules in
+    let at : c.index-premises-premise.result ≡ slice_index_or c.index-rules-waiting.result.premises c.open_from-found.result.at c.index-premises-premise.result = subst (λ (l : List Diff). c.index-premises-premise.result ≡ slice_index_or l c.open_from-found.result.at c.index-premises-premise.result) same c.index-premises-premise.is in
+    let watch : Watches c.args.atoms.now c.args.rules.now c.args.waiting.rule c.watched.result = watches c.args.atoms.now c.args.rules.now c.args.waiting.rule c.open_from-found.result.at c.index-rules-waiting.result c.index-premises-premise.result c.watched.result c.index-rules-waiting.is lt at c.watched.ensures.x c.watched.ensures.y c.watched.ensures.bound in
+    inl (stays c.args.atoms.now c.args.rules.now c.args.self.now c.args.waiting c.index-rules-waiting.result c.open_from-found.result.held c.watched.result c.args.still.now.items c.push.new.self.items c.requires.waits c.index-rules-waiting.is few held fails watch list)
 
 pub fire-requires-clause-holds : goal.fire-requires-clause-holds
 fire-requires-clause-holds c = λ r at.
     let same : c.as_slice-premises.result.now ≡ r.premises = c.as_slice-premises.ensures ∙ ap (λ (r : RuleInst). r.premises) (got-is c.args.rules.now c.args.waiting.rule c.index-rules-waiting.result r c.index-rules-waiting.is at) in
-    let e : c.first_open-premise.result ≡ length c.as_slice-premises.result.now = (let w = c.first_open-premise.ensures.within in omega arith) in
-    subst (λ (l : List Diff). Holds c.args.atoms.now (bounds c.args.self.now) l) same (Holds-all c.args.atoms.now (bounds c.args.self.now) c.as_slice-premises.result.now c.first_open-premise.result e c.first_open-premise.ensures.held)
+    let e : c.open_from-found.result.held ≡ length c.as_slice-premises.result.now = c.open_from-found.ensures.all (let w = c.open_from-found.ensures.within in omega arith) in
+    subst (λ (l : List Diff). Holds c.args.atoms.now (bounds c.args.self.now) l) same (Holds-all c.args.atoms.now (bounds c.args.self.now) c.as_slice-premises.result.now c.open_from-found.result.held e c.open_from-found.ensures.held)
 
 pub returns-clause-visited : goal.returns-clause-visited
 returns-clause-visited c =
