@@ -14,7 +14,7 @@ use Rattle.bound_close.specs.declared.waiting.Waiting.{Waiting}
 use Rattle.bound_close.specs.declared.workings.Workings.{Workings}
 use Rattle.bound_close.specs.Exact.{bound_of, Holds, Fails, IsLower, Settled}
 use Rattle.bound_close.specs.Over.{IsOver, AreOver, IsRuleOver, AreRulesOver}
-use Rattle.bound_close.specs.Passes.{Forward, Stopped, Watches, IsWaiting, ResultsHold, PremiseFails, Stays, Fires, Waits, Passed, AllSettled}
+use Rattle.bound_close.specs.Passes.{Forward, Stopped, IsWatched, Watches, IsWaiting, ResultsHold, PremiseFails, Stays, Fires, Waits, Passed, AllSettled}
 use Rattle.bound_close.specs.Workings.{bounds, IsFine}
 use Rattle.bound_close.specs.Places.{place_in}
 use Rattle.bound_close.proofs.Grow.{Holds-lower}
@@ -57,6 +57,16 @@ watches u rules k i rr d p is lt at ex ey ec = record {
       let low : d.c <ℤ bound_of u T d = rw (ex, ey, ec) at h in
       subst (λ (r : RuleInst). Fails u T r.premises) same (d, (i, lt, sym at), low);
 }
+
+-- the same of a premise whose places are known
+pub watches-at : (u : List Atom) (rules : List RuleInst) (k i : ℕ) (rr : RuleInst) (p : Between) → rr ≡ slice_index_or rules k rr → i < length rr.premises → IsWatched u rr.premises i p → Watches u rules k p
+watches-at u rules k i rr p is lt w = watches u rules k i rr w.watched p is lt w.at w.x w.y w.bound
+
+-- it fails where the bound between its places is above its right side
+pub fails-at : (u : List Atom) (T : ℕ → ℕ → ℤ) (ds : List Diff) (i : ℕ) (p : Between) → i < length ds → IsWatched u ds i p → p.bound <ℤ T p.x p.y → Fails u T ds
+fails-at u T ds i p lt w h =
+    let low : w.watched.c <ℤ bound_of u T w.watched = rw (w.x, w.y, w.bound) at h in
+    (w.watched, (i, lt, sym w.at), low)
 
 pub passed-none : (u : List Atom) (rules : List RuleInst) (w : Workings) (waiting still : List Waiting) → IsFine u w → length still ≡ 0 → Passed u rules w w (take 0 waiting) still
 passed-none u rules w waiting still f e = record {

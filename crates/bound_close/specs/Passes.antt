@@ -1,5 +1,5 @@
 -- How a table and its steps take in a base, an instance, and a list of instances that wait.
-use Rattle.std.specs.Prelude.{ℕ, ℤ, true, ◌≡◌, ◌<◌, ◌≤◌, ◌⊎◌, ◌++◌, ◌∷◌, List, [], length, take, slice_get, Some}
+use Rattle.std.specs.Prelude.{ℕ, ℤ, true, ◌≡◌, ◌<◌, ◌≤◌, ◌⊎◌, ◌++◌, ◌∷◌, List, [], length, take, slice_get, slice_index_or, Some}
 use Rattle.std.specs.Int.Signed.{◌<ℤ◌}
 use Rattle.std.specs.List.{Contains}
 use Rattle.loop_core.specs.declared.nest.Atom.{Atom}
@@ -12,6 +12,7 @@ use Rattle.bound_close.specs.declared.waiting.Waiting.{Waiting}
 use Rattle.bound_close.specs.declared.workings.Workings.{Workings}
 use Rattle.bound_close.specs.Exact.{Holds, Fails, IsLower, IsSound, Settled}
 use Rattle.bound_close.specs.Log.{IsLog, EdgesIn}
+use Rattle.bound_close.specs.Places.{place_in}
 use Rattle.bound_close.specs.Workings.{bounds, IsFine, Kept, Onward, Halted}
 
 -- these constraints of the base were taken in
@@ -43,6 +44,14 @@ pub record Forward (u : List Atom) (rules : List RuleInst) (old new : Workings) 
 
 abbrev pub Stopped : List Atom → List RuleInst → Workings → Workings → Type 0
 Stopped u rules old new = (base : List Diff) → Halted u base rules old new
+
+-- the places and the right side of the constraint at a place of a list
+pub record IsWatched (u : List Atom) (ds : List Diff) (i : ℕ) (p : Between) : Type 0 where
+  pub watched : Diff
+  pub at : watched ≡ slice_index_or ds i watched
+  pub x : p.x ≡ place_in u watched.a
+  pub y : p.y ≡ place_in u watched.b
+  pub bound : p.bound ≡ watched.c
 
 -- where the bound between two places is above a right side, a premise of the instance fails
 pub record Watches (u : List Atom) (rules : List RuleInst) (k : ℕ) (p : Between) : Type 0 where

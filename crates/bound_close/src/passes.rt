@@ -1,16 +1,13 @@
 // Passes over the instances that wait, until none fires.
 ghost use Rattle.std.specs.Prelude.{◌≡◌, ◌<◌, ◌⊎◌, ℕ, List, length, true, false, IfOk};
 ghost use Rattle.std.specs.Int.Signed.{◌<ℤ◌};
-ghost use Rattle.bound_close.specs.Places.{place_in};
 ghost use Rattle.std.specs.List.{Contains};
 
-use crate::between::Between;
 use crate::places::Places;
 use crate::waiting::Waiting;
 use crate::workings::Workings;
 use index_props::rule::RuleInst;
 use std::alloc::Global;
-use uf_constraints::system::Diff;
 use wave_base::types::Memory;
 
 impl Workings {
@@ -30,16 +27,6 @@ impl Workings {
             Some(seen) => self.is_above(&seen),
             None => false,
         }
-    }
-
-    // Whether the bound between two places is above a right side.
-    fn is_above(&self, seen: &Between) -> bool
-        ensures { result ≡ true → seen.now.bound <ℤ bounds self.now seen.now.x seen.now.y }
-    {
-        if seen.x >= self.table.rows.len() {
-            return false;
-        }
-        self.table.get(seen.x, seen.y) > seen.bound
     }
 
     // Fires an instance that waits, or puts it at the end of those that still wait, from its open
@@ -69,7 +56,7 @@ impl Workings {
             still.push(Waiting {
                 rule: waiting.rule,
                 premise: found.held,
-                seen: Some(watched(atoms, &premises[premise])),
+                seen: Some(found.seen),
             })?;
             return Ok(true);
         }
@@ -150,20 +137,6 @@ impl Workings {
             }
             waiting = still;
         }
-    }
-}
-
-// The places of a constraint, and its right side.
-fn watched(atoms: &Places, diff: &Diff) -> Between
-    ensures x { result.x ≡ place_in atoms.now diff.now.a }
-    ensures y { result.y ≡ place_in atoms.now diff.now.b }
-    ensures bound { result.bound ≡ diff.now.c }
-{
-    let (x, y) = (atoms.place(&diff.a), atoms.place(&diff.b));
-    Between {
-        x,
-        y,
-        bound: diff.c,
     }
 }
 

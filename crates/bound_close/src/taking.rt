@@ -1,6 +1,10 @@
 // How the workings take in a base and the results of an instance.
+ghost use Rattle.std.specs.Int.Signed.{◌<ℤ◌};
+ghost use Rattle.bound_close.specs.Passes.{IsWatched};
+ghost use Rattle.bound_close.specs.Places.{place_in};
 ghost use Rattle.std.specs.Prelude.{◌≡◌, ◌<◌, ◌≤◌, length, true, false, IfOk, List, slice_get, take, Some};
 
+use crate::between::Between;
 use crate::places::Places;
 use crate::way::certify;
 use crate::workings::Workings;
@@ -9,11 +13,42 @@ use std::alloc::Global;
 use uf_constraints::system::Diff;
 use wave_base::types::Memory;
 
-/// A premise at a place, with the number of those from the first on that are known to hold.
+/// A premise at a place, with its places and its right side, and the number of premises from the
+/// first on that are known to hold.
 #[derive(Clone, Copy, Debug)]
 pub struct Opening {
     pub held: usize,
     pub at: usize,
+    pub seen: Between,
+}
+
+// The places of a constraint, and its right side.
+fn watched(atoms: &Places, diff: &Diff) -> Between
+    ensures x { result.x ≡ place_in atoms.now diff.now.a }
+    ensures y { result.y ≡ place_in atoms.now diff.now.b }
+    ensures bound { result.bound ≡ diff.now.c }
+{
+    let (x, y) = (atoms.place(&diff.a), atoms.place(&diff.b));
+    Between {
+        x,
+        y,
+        bound: diff.c,
+    }
+}
+
+// Those of the constraint at a place of a list, and any behind its end.
+fn seen_at(atoms: &Places, diffs: &[Diff], at: usize) -> Between
+    ensures { at < length diffs.now → IsWatched atoms.now diffs.now at result }
+{
+    if at < diffs.len() {
+        watched(atoms, &diffs[at])
+    } else {
+        Between {
+            x: 0,
+            y: 0,
+            bound: 0,
+        }
+    }
 }
 
 impl Workings {
@@ -69,19 +104,33 @@ impl Workings {
         ensures held { Holds atoms.now (bounds self.now) (take result.held premises.now) }
         ensures fails { result.at < length premises.now → Fails atoms.now (bounds self.now) premises.now }
         ensures few { result.at < length premises.now → result.held < length premises.now }
+        ensures seen { result.at < length premises.now → IsWatched atoms.now premises.now result.at result.seen }
         ensures all { result.at ≡ length premises.now → result.held ≡ length premises.now }
     {
         if from < premises.len() {
-            let last = premises.len() - 1;
-            if !self.knows(atoms, &premises[last]) {
+            let at = premises.len() - 1;
+            let seen = seen_at(atoms, premises, at);
+            if self.is_above(&seen) {
                 return Opening {
                     held: from,
-                    at: last,
+                    at,
+                    seen,
                 };
             }
         }
         let at = self.first_open(atoms, premises, from);
-        Opening { held: at, at }
+        let seen = seen_at(atoms, premises, at);
+        Opening { held: at, at, seen }
+    }
+
+    /// Whether the bound between two places is above a right side. It takes no memory.
+    pub fn is_above(&self, seen: &Between) -> bool
+        ensures { result ≡ true → seen.now.bound <ℤ bounds self.now seen.now.x seen.now.y }
+    {
+        if seen.x >= self.table.rows.len() {
+            return false;
+        }
+        self.table.get(seen.x, seen.y) > seen.bound
     }
 
     fn add_results(

@@ -3,9 +3,9 @@ use Rattle.uf_constraints.specs.declared.system.Diff.{Diff}
 use Rattle.index_props.specs.declared.rule.RuleInst.{RuleInst}
 use Rattle.bound_close.specs.Exact.{Holds, Fails}
 use Rattle.bound_close.specs.Over.{AreOver}
-use Rattle.bound_close.specs.Passes.{ResultsHold, Stays, Fires, Watches}
+use Rattle.bound_close.specs.Passes.{ResultsHold, Stays, Fires, IsWatched, Watches}
 use Rattle.bound_close.specs.Workings.{bounds}
-use Rattle.bound_close.proofs.Passing.{stays, watches}
+use Rattle.bound_close.proofs.Passing.{stays, watches-at}
 use Rattle.bound_close.proofs.Takes.{got, got-is, contains-got, Holds-all, if-ok-map}
 use Rattle.bound_close.proofs.workings.Workings.look.Goals as goal
 
@@ -32,10 +32,10 @@ returns-then-premise-premises-clause-visited c = λ _.
     let few : c.open_from-found.result.held < length c.index-rules-waiting.result.premises = subst (λ (l : List Diff). c.open_from-found.result.held < length l) same (c.open_from-found.ensures.few c.if-premise-premises.true) in
     let held : Holds c.args.atoms.now (bounds c.args.self.now) (take c.open_from-found.result.held c.index-rules-waiting.result.premises) = subst (λ (l : List Diff). Holds c.args.atoms.now (bounds c.args.self.now) (take c.open_from-found.result.held l)) same c.open_from-found.ensures.held in
     let fails : Fails c.args.atoms.now (bounds c.args.self.now) c.index-rules-waiting.result.premises = subst (λ (l : List Diff). Fails c.args.atoms.now (bounds c.args.self.now) l) same (c.open_from-found.ensures.fails c.if-premise-premises.true) in
-    let list : c.push.new.self.items ≡ c.args.still.now.items ++ record { rule = c.args.waiting.rule; premise = c.open_from-found.result.held; seen = Some c.watched.result } ∷ [] = search rules in
-    let at : c.index-premises-premise.result ≡ slice_index_or c.index-rules-waiting.result.premises c.open_from-found.result.at c.index-premises-premise.result = subst (λ (l : List Diff). c.index-premises-premise.result ≡ slice_index_or l c.open_from-found.result.at c.index-premises-premise.result) same c.index-premises-premise.is in
-    let watch : Watches c.args.atoms.now c.args.rules.now c.args.waiting.rule c.watched.result = watches c.args.atoms.now c.args.rules.now c.args.waiting.rule c.open_from-found.result.at c.index-rules-waiting.result c.index-premises-premise.result c.watched.result c.index-rules-waiting.is lt at c.watched.ensures.x c.watched.ensures.y c.watched.ensures.bound in
-    inl (stays c.args.atoms.now c.args.rules.now c.args.self.now c.args.waiting c.index-rules-waiting.result c.open_from-found.result.held c.watched.result c.args.still.now.items c.push.new.self.items c.requires.waits c.index-rules-waiting.is few held fails watch list)
+    let list : c.push.new.self.items ≡ c.args.still.now.items ++ record { rule = c.args.waiting.rule; premise = c.open_from-found.result.held; seen = Some c.open_from-found.result.seen } ∷ [] = search rules in
+    let seen : IsWatched c.args.atoms.now c.index-rules-waiting.result.premises c.open_from-found.result.at c.open_from-found.result.seen = subst (λ (l : List Diff). IsWatched c.args.atoms.now l c.open_from-found.result.at c.open_from-found.result.seen) same (c.open_from-found.ensures.seen c.if-premise-premises.true) in
+    let watch : Watches c.args.atoms.now c.args.rules.now c.args.waiting.rule c.open_from-found.result.seen = watches-at c.args.atoms.now c.args.rules.now c.args.waiting.rule c.open_from-found.result.at c.index-rules-waiting.result c.open_from-found.result.seen c.index-rules-waiting.is lt seen in
+    inl (stays c.args.atoms.now c.args.rules.now c.args.self.now c.args.waiting c.index-rules-waiting.result c.open_from-found.result.held c.open_from-found.result.seen c.args.still.now.items c.push.new.self.items c.requires.waits c.index-rules-waiting.is few held fails watch list)
 
 pub fire-requires-clause-holds : goal.fire-requires-clause-holds
 fire-requires-clause-holds c = λ r at.
