@@ -1,9 +1,8 @@
 -- A table in which the base holds and each instance is settled is exact, and its steps pass the check.
-use Rattle.std.proofs.Common.{ap, ℕ, ℤ, pos, negsuc, zero, suc, ◌<◌, ◌≤◌, ◌+◌, ◌-◌, ◌^◌, ◌≡◌, ◌⊎◌, inl, inr, arith, refl, List, [], ◌∷◌, ◌++◌, length, slice_index_or, slice_get, subst, sym, ◌∙◌, Some, None, Ok, Option, true, false, append_assoc, Bool}
-use Rattle.std.specs.Prelude.{◌+ℤ◌, ◌≤ℤ◌, MatchOption, Result, Err, IfOk, not}
+use Rattle.std.proofs.Common.{ℕ, ℤ, pos, negsuc, zero, suc, ◌<◌, ◌≤◌, ◌-◌, ◌≡◌, ◌⊎◌, inl, inr, arith, refl, List, [], ◌∷◌, ◌++◌, length, slice_index_or, slice_get, subst, sym, ◌∙◌, Some, Ok, true, false, append_assoc, Bool}
+use Rattle.std.specs.Prelude.{◌+ℤ◌, ◌≤ℤ◌, Result, Err, IfOk, not}
 use Rattle.std.specs.Int.Signed.{◌<ℤ◌}
 use Rattle.std.specs.List.{Contains}
-use Rattle.std.specs.Option.{option_map_or}
 use Rattle.std.proofs.lemmas.Int.{ints}
 use Rattle.std.proofs.lemmas.List.{length-append, append-nil}
 use Rattle.loop_core.specs.declared.nest.Atom.{Atom}
@@ -18,18 +17,18 @@ use Rattle.bound_close.specs.declared.edge.Edge.{Edge}
 use Rattle.bound_close.specs.declared.between.Between.{Between}
 use Rattle.bound_close.specs.declared.workings.Workings.{Workings}
 use Rattle.bound_close.specs.Between.{IsBetween, NotBetween}
-use Rattle.bound_close.specs.Closure.{Found, Closed, IsClosure, IsLeast, IsBound, Shows, ShowsContradiction}
-use Rattle.bound_close.specs.Exact.{bound_of, Holds, Fails, IsSound, IsExact, Settled}
-use Rattle.bound_close.specs.Log.{IsLog, EdgesIn, Logged, Emitted, Refutes}
+use Rattle.bound_close.specs.Closure.{Found, Closed, IsClosure, IsLeast, Shows, ShowsContradiction}
+use Rattle.bound_close.specs.Exact.{bound_of, Holds, IsSound, IsExact, Settled}
+use Rattle.bound_close.specs.Log.{IsLog, Logged, Emitted}
 use Rattle.bound_close.specs.Log.IsLog.{empty, more}
 use Rattle.bound_close.specs.Marks.{no_edge}
 use Rattle.bound_close.specs.Over.{IsOver, AreOver, AreRulesOver}
 use Rattle.bound_close.specs.Passes.{Taken, Forward, AllSettled}
 use Rattle.bound_close.specs.Places.{place_in, atom_at, diff_at}
 use Rattle.bound_close.specs.Rows.{far, Sums, unit_bound}
-use Rattle.bound_close.specs.Workings.{bounds, IsFine, Kept, Refuted, Halted}
+use Rattle.bound_close.specs.Workings.{bounds, Kept, Halted}
 use Rattle.bound_close.proofs.Atoms.{place-in, place-is}
-use Rattle.bound_close.proofs.Emits.{get-last, log-length, weaken-given}
+use Rattle.bound_close.proofs.Emits.{get-last, weaken-given}
 use Rattle.bound_close.proofs.Grow.{Holds-lower}
 use Rattle.bound_close.proofs.Improve.{unit_same, unit_finite}
 use Rattle.bound_close.proofs.Tight.{range}

@@ -1,5 +1,5 @@
 -- How many numbers below a bound pass a test.
-use Rattle.std.proofs.Common.{ℕ, zero, suc, ◌<◌, ◌≤◌, ◌+◌, ◌≡◌, ◌⊎◌, inl, inr, arith, Bool, true, false, cond, refl}
+use Rattle.std.proofs.Common.{ℕ, zero, suc, ◌<◌, ◌≤◌, ◌+◌, ◌≡◌, inl, inr, arith, Bool, true, false, cond, refl}
 use Rattle.std.proofs.lemmas.Bool.{cases_eq}
 use Rattle.bound_close.specs.Rows.{count}
 

@@ -1,5 +1,5 @@
 -- A table stays traced when a constraint is added to it and its edge to the edges.
-use Rattle.std.proofs.Common.{take, drop, ap, ℕ, ℤ, pos, ◌<◌, ◌≤◌, ◌+◌, ◌≡◌, ◌⊎◌, inl, inr, arith, refl, ◌∙◌, sym, subst, List, [], ◌∷◌, ◌++◌, length, slice_index_or, cond, true, false}
+use Rattle.std.proofs.Common.{take, drop, ℕ, ℤ, pos, ◌<◌, ◌≤◌, ◌≡◌, ◌⊎◌, inl, arith, refl, ◌∙◌, sym, subst, List, [], ◌∷◌, ◌++◌, length, cond, true, false}
 use Rattle.std.specs.Prelude.{◌+ℤ◌, ◌≤ℤ◌}
 use Rattle.std.specs.Int.Signed.{◌<ℤ◌, lt_z}
 use Rattle.std.proofs.lemmas.Int.{ints}
@@ -7,9 +7,9 @@ use Rattle.std.proofs.lemmas.List.{length-append, get_or_append_left, take_at}
 use Rattle.std.proofs.Math.Seq.{get_or-append_seam}
 use Rattle.std.proofs.Common.{Bool}
 use Rattle.bound_close.specs.declared.edge.Edge.{Edge}
-use Rattle.bound_close.specs.Rows.{far, entry, Sums, Adds, Within, IsTable, IsMarks, AllMarked, mark_of, unit_bound}
+use Rattle.bound_close.specs.Rows.{far, entry, Adds, Within, IsTable, IsMarks, AllMarked, mark_of, unit_bound}
 use Rattle.bound_close.specs.Marks.{no_edge, Via, Traced, IsTraced, mark_at, edge_at, edge_a, edge_b, edge_c}
-use Rattle.bound_close.proofs.Traced.{Marks, Traced-add}
+use Rattle.bound_close.proofs.Traced.{Traced-add}
 use Rattle.bound_close.proofs.Improve.{unit_finite}
 
 mark-lower : (old new : ℤ) (m e : ℕ) → new <ℤ old → mark_of old new m e ≡ e

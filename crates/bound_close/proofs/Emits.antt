@@ -1,5 +1,5 @@
 -- Steps put at the end of a log.
-use Rattle.std.proofs.Common.{ap, ℕ, ℤ, pos, negsuc, zero, suc, ◌<◌, ◌≤◌, ◌+◌, ◌≡◌, ◌⊎◌, inl, inr, arith, refl, List, [], ◌∷◌, ◌++◌, length, slice_index_or, slice_get, subst, sym, ◌∙◌, Bool, true, false, Option, Some, None, append_assoc}
+use Rattle.std.proofs.Common.{ap, ℕ, ℤ, pos, negsuc, zero, suc, ◌<◌, ◌≤◌, ◌≡◌, inl, inr, arith, refl, List, [], ◌∷◌, ◌++◌, length, slice_index_or, slice_get, subst, sym, ◌∙◌, true, Some, append_assoc}
 use Rattle.std.specs.Prelude.{◌+ℤ◌, ◌≤ℤ◌, int_le, Result, Ok, Err, IfOk, OnOk}
 use Rattle.std.specs.Int.Signed.{◌<ℤ◌}
 use Rattle.std.proofs.lemmas.Int.{ints}
@@ -13,7 +13,7 @@ use Rattle.index_props.specs.Certificate.{conclusion, fits, same_of, sum_of, wea
 use Rattle.bound_close.specs.declared.edge.Edge.{Edge}
 use Rattle.bound_close.specs.Places.{atom_at, diff_at}
 use Rattle.bound_close.specs.Rows.{far, Sums}
-use Rattle.bound_close.specs.Marks.{Via, Traced, mark_at, edge_at, edge_a, edge_b, edge_c}
+use Rattle.bound_close.specs.Marks.{Via, Traced, mark_at, edge_at}
 use Rattle.bound_close.specs.Log.{IsLog, EdgesIn, Emitted, edge_diff, Refuting}
 use Rattle.bound_close.specs.Log.IsLog.{empty, more}
 use Rattle.bound_close.proofs.Atoms.{same-itself, listed-at}

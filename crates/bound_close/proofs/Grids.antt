@@ -1,5 +1,5 @@
 -- Constraints taken in by a table that is made anew.
-use Rattle.std.proofs.Common.{ap, take, ℕ, ℤ, pos, ◌<◌, ◌≤◌, ◌+◌, ◌≡◌, ◌⊎◌, inl, inr, arith, refl, List, [], ◌∷◌, ◌++◌, length, slice_index_or, slice_get, subst, sym, ◌∙◌, Some, Bool, true, false}
+use Rattle.std.proofs.Common.{ap, take, ℕ, ℤ, pos, ◌<◌, ◌+◌, ◌≡◌, ◌⊎◌, inl, inr, arith, List, [], ◌∷◌, ◌++◌, length, slice_index_or, slice_get, subst, sym, ◌∙◌, Some, Bool, true, false}
 use Rattle.std.specs.Prelude.{◌+ℤ◌, ◌≤ℤ◌}
 use Rattle.std.specs.Int.Signed.{◌<ℤ◌}
 use Rattle.std.specs.List.{Contains}
@@ -11,11 +11,10 @@ use Rattle.std.proofs.Math.Seq.{take-length}
 use Rattle.loop_core.specs.declared.nest.Atom.{Atom}
 use Rattle.uf_constraints.specs.declared.system.Diff.{Diff}
 use Rattle.index_props.specs.declared.rule.RuleInst.{RuleInst}
-use Rattle.index_props.specs.Derivable.{Derivable, IsContradictory}
 use Rattle.bound_close.specs.Exact.{bound_of, IsLower}
 use Rattle.bound_close.specs.Over.{IsOver, AreOver, AreRulesOver}
 use Rattle.bound_close.specs.Places.{place_in}
-use Rattle.bound_close.specs.Plain.{IsGrid, AllDerivable, TakenIn, Opposed, IsFired, IsResult}
+use Rattle.bound_close.specs.Plain.{IsGrid, TakenIn, Opposed, IsFired, IsResult}
 use Rattle.bound_close.specs.Rows.{far, entry, Adds, Sums, IsTable}
 use Rattle.bound_close.proofs.Closes.{test_is}
 use Rattle.bound_close.proofs.Grow.{a_in, b_in, Adds-holds, Adds-sound, contradicts, lower-refl, lower-trans}

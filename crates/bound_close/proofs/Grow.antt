@@ -1,9 +1,8 @@
 -- How a table and its steps take in one constraint.
-use Rattle.std.proofs.Common.{ap, ℕ, ℤ, pos, negsuc, ◌<◌, ◌≤◌, ◌+◌, ◌^◌, ◌≡◌, ◌⊎◌, inl, inr, arith, refl, List, [], ◌∷◌, ◌++◌, length, slice_index_or, slice_get, subst, sym, ◌∙◌, Some, unsigned_abs}
+use Rattle.std.proofs.Common.{ap, ℕ, ℤ, pos, negsuc, ◌<◌, ◌≤◌, ◌^◌, ◌≡◌, inl, inr, arith, refl, List, [], ◌∷◌, ◌++◌, length, slice_index_or, slice_get, subst, sym, ◌∙◌, Some, unsigned_abs}
 use Rattle.std.specs.Prelude.{◌+ℤ◌, ◌≤ℤ◌}
 use Rattle.std.specs.Int.Signed.{◌<ℤ◌}
-use Rattle.std.specs.List.{Contains}
-use Rattle.std.proofs.lemmas.Bool.{cases_eq, cases_lt}
+use Rattle.std.proofs.lemmas.Bool.{cases_lt}
 use Rattle.std.proofs.lemmas.Int.{ints}
 use Rattle.std.proofs.lemmas.List.{length-append, append-nil, get_or_append_left}
 use Rattle.std.proofs.Math.Seq.{get_or-append_seam}
@@ -12,21 +11,19 @@ use Rattle.uf_constraints.specs.declared.system.Diff.{Diff}
 use Rattle.index_props.specs.declared.rule.RuleInst.{RuleInst}
 use Rattle.index_props.specs.declared.certificate.Step.{Step}
 use Rattle.index_props.specs.Derivable.{Derivable, IsContradictory}
-use Rattle.index_props.specs.Derivable.Derivable.{given, same, joined, weaker, fired}
-use Rattle.index_props.specs.Certificate.{conclusion}
+use Rattle.index_props.specs.Derivable.Derivable.{joined, weaker}
 use Rattle.bound_close.specs.declared.edge.Edge.{Edge}
 use Rattle.bound_close.specs.declared.workings.Workings.{Workings}
-use Rattle.bound_close.specs.Exact.{bound_of, Holds, Fails, IsLower, IsSound, IsExact, Settled}
-use Rattle.bound_close.specs.Log.{IsLog, EdgesIn, Refuting, edge_diff}
+use Rattle.bound_close.specs.Exact.{bound_of, Holds, IsLower, IsSound}
+use Rattle.bound_close.specs.Log.{EdgesIn, Refuting, edge_diff}
 use Rattle.bound_close.specs.Log.IsLog.{more}
 use Rattle.bound_close.specs.Marks.{IsTraced, edge_at, no_edge}
 use Rattle.bound_close.specs.Over.{IsOver, AreOver}
 use Rattle.bound_close.specs.Places.{place_in, atom_at, diff_at}
-use Rattle.bound_close.specs.Rows.{far, entry, Within, Adds, Sums, IsTable}
-use Rattle.bound_close.specs.Workings.{bounds, IsFine, Grown, Clashes, Refuted}
+use Rattle.bound_close.specs.Rows.{far, Within, Adds, Sums}
+use Rattle.bound_close.specs.Workings.{bounds, IsFine, Grown, Clashes}
 use Rattle.bound_close.proofs.Atoms.{place-in, place-is}
 use Rattle.bound_close.proofs.Emits.{get-left, get-last, log-length, edges-left}
-use Rattle.bound_close.proofs.Tight.{range}
 
 pub small : (c : ℤ) → unsigned_abs c ≤ 2 ^ 23 → Within 8388608 c
 small c h = record { high = omega (arith, ints); low = omega (arith, ints) }

@@ -1,13 +1,13 @@
 -- What lowering each row of a table gives.
-use Rattle.std.proofs.Common.{ℕ, ℤ, pos, ◌*◌, ◌<◌, ◌≤◌, ◌+◌, ◌≡◌, ◌⊎◌, inl, inr, arith, Bool, true, false, cond, refl, List, length, slice_index_or, [], subst, sym, ◌∙◌, rules, ap}
+use Rattle.std.proofs.Common.{ℕ, ℤ, pos, ◌*◌, ◌<◌, ◌≤◌, ◌≡◌, ◌⊎◌, inl, inr, arith, false, cond, refl, List, length, slice_index_or, [], subst, sym, ◌∙◌, ap}
 use Rattle.std.specs.Prelude.{◌+ℤ◌, ◌≤ℤ◌}
-use Rattle.std.specs.Int.Signed.{◌<ℤ◌, lt_z, le_z}
+use Rattle.std.specs.Int.Signed.{◌<ℤ◌, lt_z}
 use Rattle.std.proofs.lemmas.Int.{ints, by_lt_z}
 use Rattle.bound_close.specs.Rows.{far, cell, entry, step, Sums, Adds, Within, IsTable, lowered, unit_bound, on_way, count}
 use Rattle.std.proofs.lemmas.Bool.{cases_eq}
 use Rattle.std.proofs.lemmas.Bool.Decides.{nat_tests}
 use Rattle.std.specs.Prelude.{◌==◌}
-use Rattle.bound_close.proofs.Tight.{Sums-add, range, OnWay, OnWay-in}
+use Rattle.bound_close.proofs.Tight.{Sums-add, range, OnWay-in}
 use Rattle.bound_close.proofs.Count.{count-has}
 
 by_way : ℤ → ℤ → ℤ → ℤ → ℤ

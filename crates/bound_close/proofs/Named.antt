@@ -1,5 +1,5 @@
 -- Premises that are named one after another.
-use Rattle.std.proofs.Common.{ap, ℕ, ℤ, ◌≡◌, refl, List, [], ◌∷◌, ◌++◌, length, slice_get, subst, sym, ◌∙◌, Bool, true, false, Option, Some, None, append_assoc}
+use Rattle.std.proofs.Common.{ℕ, ◌≡◌, refl, List, [], ◌∷◌, ◌++◌, slice_get, Bool, true, false, Option, Some, None, append_assoc}
 use Rattle.std.specs.Prelude.{◌&&◌}
 use Rattle.std.specs.Option.{option_map_or}
 use Rattle.std.specs.Ordering.{int_eq}
@@ -8,11 +8,10 @@ use Rattle.std.proofs.lemmas.List.{append-nil}
 use Rattle.loop_core.specs.declared.nest.Atom.{Atom}
 use Rattle.uf_constraints.specs.declared.system.Diff.{Diff}
 use Rattle.uf_constraints.specs.Same.{same_atom}
-use Rattle.index_props.specs.declared.rule.RuleInst.{RuleInst}
 use Rattle.index_props.specs.declared.certificate.Step.{Step}
 use Rattle.index_props.specs.Certificate.{named, same_diff}
 use Rattle.bound_close.specs.declared.edge.Edge.{Edge}
-use Rattle.bound_close.specs.Log.{IsLog, EdgesIn, Emitted, Naming}
+use Rattle.bound_close.specs.Log.{Emitted, Naming}
 use Rattle.bound_close.proofs.Atoms.{same-itself}
 use Rattle.bound_close.proofs.Emits.{get-left, edges-left}
 

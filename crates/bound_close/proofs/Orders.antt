@@ -1,6 +1,5 @@
 -- A wider base derives no less, so the order of a base doesn't matter.
-use Rattle.std.proofs.Common.{ℕ, ℤ, ◌≡◌, inl, inr, refl, sym, subst, ap, ◌∙◌, arith, List, true, false, Bool, Option, Some, None}
-use Rattle.std.specs.Prelude.{◌+ℤ◌, ◌≤ℤ◌}
+use Rattle.std.proofs.Common.{ℤ, ◌≡◌, inl, inr, refl, sym, subst, ap, arith, List, true, false, Bool, Option, Some, None}
 use Rattle.std.specs.List.{Contains}
 use Rattle.std.proofs.lemmas.Int.{ints}
 use Rattle.loop_core.specs.declared.nest.Atom.{Atom}

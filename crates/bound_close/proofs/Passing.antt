@@ -13,7 +13,7 @@ use Rattle.bound_close.specs.declared.between.Between.{Between}
 use Rattle.bound_close.specs.declared.waiting.Waiting.{Waiting}
 use Rattle.bound_close.specs.declared.workings.Workings.{Workings}
 use Rattle.bound_close.specs.Exact.{bound_of, Holds, Fails, IsLower, Settled}
-use Rattle.bound_close.specs.Over.{IsOver, AreOver, IsRuleOver, AreRulesOver}
+use Rattle.bound_close.specs.Over.{AreRulesOver}
 use Rattle.bound_close.specs.Passes.{Forward, Stopped, IsWatched, Watches, IsWaiting, ResultsHold, PremiseFails, Stays, Fires, Waits, Passed, AllSettled}
 use Rattle.bound_close.specs.Workings.{bounds, IsFine}
 use Rattle.bound_close.specs.Places.{place_in}

@@ -1,5 +1,5 @@
 -- A list that is written from left to right.
-use Rattle.std.proofs.Common.{ℕ, ℤ, ◌<◌, ◌≤◌, ◌+◌, ◌≡◌, ◌≢◌, ◌⊎◌, inl, inr, List, slice_index_or, length, arith, get_or-set_other, get_or-set_same, below_more, ◌∙◌, slice_set}
+use Rattle.std.proofs.Common.{ℕ, ℤ, ◌<◌, ◌≤◌, ◌+◌, ◌≡◌, ◌≢◌, inl, inr, List, slice_index_or, length, arith, get_or-set_other, get_or-set_same, below_more, ◌∙◌, slice_set}
 use Rattle.std.proofs.Common.{w64, to_z, of_z, sym}
 use Rattle.std.proofs.lemmas.Int.{to_z-of_z}
 use mir.Val.{SFits}
@@ -7,9 +7,9 @@ use Rattle.std.proofs.lemmas.Bool.{cases_eq, cases_lt}
 use Rattle.std.proofs.Common.{subst, [], ◌∷◌, ◌++◌}
 use Rattle.std.proofs.lemmas.List.{get_or_append_left}
 use Rattle.std.proofs.Math.Seq.{get_or-append_seam}
-use Rattle.std.proofs.Common.{pos, Bool, true, cond, rules}
+use Rattle.std.proofs.Common.{true, cond, rules}
 use Rattle.std.specs.Prelude.{◌+ℤ◌}
-use Rattle.std.specs.Int.Signed.{lt_z, ◌<ℤ◌}
+use Rattle.std.specs.Int.Signed.{lt_z}
 use Rattle.std.proofs.lemmas.Int.{ints}
 use Rattle.bound_close.specs.Rows.{far, cell, step, Within, mark_of}
 use Rattle.std.proofs.Common.{refl, false}

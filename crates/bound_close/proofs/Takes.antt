@@ -1,7 +1,6 @@
 -- A base and the results of an instance, taken in one after another.
-use Rattle.std.proofs.Common.{ap, take, drop, ℕ, ℤ, pos, zero, suc, ◌<◌, ◌≤◌, ◌+◌, ◌^◌, ◌≡◌, ◌⊎◌, inl, inr, arith, refl, List, [], ◌∷◌, ◌++◌, length, slice_index_or, slice_get, subst, sym, ◌∙◌, Some, true, unsigned_abs}
-use Rattle.std.specs.Prelude.{◌+ℤ◌, ◌≤ℤ◌, Result, Ok, Err, IfOk}
-use Rattle.std.specs.Int.Signed.{◌<ℤ◌}
+use Rattle.std.proofs.Common.{ap, take, drop, ℕ, ℤ, zero, suc, ◌<◌, ◌+◌, ◌≡◌, inl, inr, arith, List, [], ◌∷◌, ◌++◌, length, slice_index_or, slice_get, subst, sym, ◌∙◌, Some, true}
+use Rattle.std.specs.Prelude.{◌≤ℤ◌, Result, Ok, Err, IfOk}
 use Rattle.std.specs.List.{Contains}
 use Rattle.std.proofs.lemmas.Int.{ints}
 use Rattle.std.proofs.lemmas.List.{take_more, take-append-drop}
@@ -11,19 +10,17 @@ use Rattle.std.proofs.Math.Seq.{take-length}
 use Rattle.loop_core.specs.declared.nest.Atom.{Atom}
 use Rattle.uf_constraints.specs.declared.system.Diff.{Diff}
 use Rattle.index_props.specs.declared.rule.RuleInst.{RuleInst}
-use Rattle.index_props.specs.declared.certificate.Step.{Step}
 use Rattle.index_props.specs.declared.certificate.Step.TheVariants.{Base, Rule}
 use Rattle.index_props.specs.Derivable.{Derivable}
 use Rattle.index_props.specs.Derivable.Derivable.{given, weaker, fired}
 use Rattle.index_props.specs.Certificate.{conclusion, named}
 use Rattle.bound_close.specs.declared.workings.Workings.{Workings}
-use Rattle.bound_close.specs.Exact.{bound_of, Holds, IsLower, IsSound}
+use Rattle.bound_close.specs.Exact.{bound_of, Holds, IsSound}
 use Rattle.bound_close.specs.Log.{Naming}
-use Rattle.bound_close.specs.Over.{IsOver, AreOver, IsRuleOver, AreRulesOver}
-use Rattle.bound_close.specs.Passes.{Taken, Ready, Applied, Forward, Stopped, ResultsHold}
+use Rattle.bound_close.specs.Over.{IsOver, AreOver, IsRuleOver}
+use Rattle.bound_close.specs.Passes.{Taken, Ready, Applied, Forward, Stopped}
 use Rattle.bound_close.specs.Places.{place_in, atom_at}
-use Rattle.bound_close.specs.Rows.{far}
-use Rattle.bound_close.specs.Workings.{bounds, IsFine, Kept, Onward, Halted, Grown, Clashes, Refuted}
+use Rattle.bound_close.specs.Workings.{bounds, IsFine, Kept, Halted, Grown, Clashes, Refuted}
 use Rattle.bound_close.proofs.Atoms.{place-in, place-is}
 use Rattle.bound_close.proofs.Emits.{edges-left}
 use Rattle.bound_close.proofs.Grow.{lower-refl, lower-trans, Holds-lower}

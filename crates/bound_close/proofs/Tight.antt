@@ -1,5 +1,5 @@
 -- A table that is closed under sums stays so when a constraint is added.
-use Rattle.std.proofs.Common.{ℕ, ℤ, pos, ◌<◌, ◌≤◌, ◌+◌, ◌*◌, ◌≡◌, ◌⊎◌, inl, inr, arith, Bool, true, false, ◌&&◌, refl}
+use Rattle.std.proofs.Common.{ℕ, ℤ, pos, ◌<◌, ◌≤◌, ◌+◌, ◌*◌, ◌≡◌, inl, inr, arith, true, ◌&&◌}
 use Rattle.std.specs.Prelude.{◌+ℤ◌, ◌≤ℤ◌}
 use Rattle.std.specs.Int.Signed.{◌<ℤ◌, lt_z, le_z}
 use Rattle.std.proofs.lemmas.Int.{ints}

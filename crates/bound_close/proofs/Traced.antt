@@ -1,5 +1,5 @@
 -- Marks: which constraint tightened an entry last. From them the way of each entry can be read off.
-use Rattle.std.proofs.Common.{ℕ, ℤ, pos, ◌<◌, ◌≤◌, ◌+◌, ◌≡◌, ◌⊎◌, inl, inr, arith, refl, ◌∙◌, sym, subst}
+use Rattle.std.proofs.Common.{ℕ, ℤ, pos, ◌<◌, ◌≤◌, ◌≡◌, inl, inr, arith}
 use Rattle.std.specs.Prelude.{◌+ℤ◌, ◌≤ℤ◌}
 use Rattle.std.specs.Int.Signed.{◌<ℤ◌}
 use Rattle.std.proofs.lemmas.Int.{ints}

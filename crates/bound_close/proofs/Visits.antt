@@ -1,27 +1,26 @@
 -- Instances that fire, and the passes over them.
-use Rattle.std.proofs.Common.{ap, ℕ, ℤ, pos, ◌<◌, ◌≤◌, ◌+◌, ◌≡◌, ◌⊎◌, inl, inr, arith, refl, List, [], ◌∷◌, length, slice_index_or, slice_set, slice_get, subst, sym, ◌∙◌, Some, Option, None, Bool, true, false, cond, ◌||◌, get_or-set_other, get_or-set_same, replicate}
-use Rattle.std.specs.Prelude.{◌+ℤ◌, ◌≤ℤ◌, MatchOption}
+use Rattle.std.proofs.Common.{ap, ℕ, ℤ, ◌<◌, ◌≤◌, ◌+◌, ◌≡◌, ◌⊎◌, inl, inr, arith, refl, List, length, slice_index_or, slice_set, slice_get, subst, sym, ◌∙◌, Some, Option, None, Bool, true, false, cond, ◌||◌, get_or-set_other}
+use Rattle.std.specs.Prelude.{◌≤ℤ◌, MatchOption}
 use Rattle.std.specs.Int.Signed.{◌<ℤ◌}
-use Rattle.std.specs.List.{Contains, sum_by}
+use Rattle.std.specs.List.{Contains}
 use Rattle.std.proofs.lemmas.Bool.{cases_eq}
-use Rattle.std.proofs.lemmas.Int.{ints}
 use Rattle.std.proofs.lemmas.List.{length-set}
 use Rattle.std.proofs.lemmas.List.Sums.{sum_by-set}
 use Rattle.loop_core.specs.declared.nest.Atom.{Atom}
 use Rattle.uf_constraints.specs.declared.system.Diff.{Diff}
 use Rattle.index_props.specs.declared.rule.RuleInst.{RuleInst}
-use Rattle.index_props.specs.Derivable.{Derivable, IsContradictory}
+use Rattle.index_props.specs.Derivable.{Derivable}
 use Rattle.index_props.specs.Derivable.Derivable.{given, fired}
 use Rattle.bound_close.specs.Closure.{IsBound, IsLeast}
-use Rattle.bound_close.specs.Exact.{Holds, Fails, IsSound, IsExact, Settled}
-use Rattle.bound_close.specs.Over.{IsOver, AreOver, IsRuleOver, AreRulesOver}
+use Rattle.bound_close.specs.Exact.{Holds, IsSound, IsExact, Settled}
+use Rattle.bound_close.specs.Over.{AreOver, AreRulesOver}
 use Rattle.bound_close.specs.Places.{place_in, atom_at}
-use Rattle.bound_close.specs.Plain.{IsGrid, AllDerivable, TakenIn, Opposed, IsFired, IsResult, ResultsDerivable, IsMade, IsOpposed, unfired, IsHeldBack, Visited, IsKnown, IsUnknown}
+use Rattle.bound_close.specs.Plain.{AllDerivable, TakenIn, Opposed, IsFired, IsResult, ResultsDerivable, IsMade, IsOpposed, unfired, IsHeldBack, Visited, IsKnown, IsUnknown}
 use Rattle.bound_close.specs.Rows.{far, entry, Sums, unit_bound}
 use Rattle.bound_close.proofs.Atoms.{place-is}
 use Rattle.bound_close.proofs.Closes.{exact, unit-sound}
-use Rattle.bound_close.proofs.Grids.{lower-one, result-over}
-use Rattle.bound_close.proofs.Takes.{got, got-is, contains-got, premise-derivable}
+use Rattle.bound_close.proofs.Grids.{lower-one}
+use Rattle.bound_close.proofs.Takes.{got, contains-got, premise-derivable}
 
 fewer_set : (xs : List Bool) (i : ℕ) → i < length xs → slice_index_or xs i false ≡ false → unfired (slice_set xs i true) < unfired xs
 fewer_set xs i l h =

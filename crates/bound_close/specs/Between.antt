@@ -1,5 +1,5 @@
 -- The bound that a closure knows between two atoms.
-use Rattle.std.specs.Prelude.{ℤ, ◌<◌, ◌≡◌, false, length}
+use Rattle.std.specs.Prelude.{◌<◌, ◌≡◌, false, length}
 use Rattle.std.specs.Int.Signed.{◌<ℤ◌}
 use Rattle.loop_core.specs.declared.nest.Atom.{Atom}
 use Rattle.bound_close.specs.declared.between.Between.{Between}

@@ -1,11 +1,11 @@
 -- What a closure answers.
-use Rattle.std.specs.Prelude.{ℕ, ℤ, negsuc, ◌≤ℤ◌, ◌≡◌, Bool, true, false, List, [], Option, Ok, MatchOption}
+use Rattle.std.specs.Prelude.{ℤ, negsuc, ◌≤ℤ◌, ◌≡◌, Bool, true, false, List, [], Option, Ok, MatchOption}
 use Rattle.std.specs.List.{Contains}
 use Rattle.loop_core.specs.declared.nest.Atom.{Atom}
 use Rattle.uf_constraints.specs.declared.system.Diff.{Diff}
 use Rattle.index_props.specs.declared.rule.RuleInst.{RuleInst}
 use Rattle.index_props.specs.declared.certificate.Step.{Step}
-use Rattle.index_props.specs.Derivable.{Derivable, IsContradictory}
+use Rattle.index_props.specs.Derivable.{Derivable}
 use Rattle.index_props.specs.Certificate.{outcome}
 use Rattle.bound_close.specs.declared.workings.Workings.{Workings}
 use Rattle.bound_close.specs.Exact.{IsExact}

@@ -1,5 +1,5 @@
 -- The steps from which a closure's answers follow.
-use Rattle.std.specs.Prelude.{ℕ, ℤ, pos, negsuc, ◌<◌, ◌≡◌, ◌++◌, ◌∷◌, true, List, [], length, slice_get, Some}
+use Rattle.std.specs.Prelude.{ℕ, negsuc, ◌<◌, ◌≡◌, ◌++◌, ◌∷◌, true, List, [], length, slice_get, Some}
 use Rattle.loop_core.specs.declared.nest.Atom.{Atom}
 use Rattle.uf_constraints.specs.declared.system.Diff.{Diff}
 use Rattle.index_props.specs.declared.rule.RuleInst.{RuleInst}

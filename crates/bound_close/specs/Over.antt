@@ -1,5 +1,5 @@
 -- Constraints over the atoms of a list, with small constants.
-use Rattle.std.specs.Prelude.{ℕ, ◌≤◌, ◌^◌, List, unsigned_abs}
+use Rattle.std.specs.Prelude.{◌≤◌, ◌^◌, List, unsigned_abs}
 use Rattle.std.specs.List.{Contains}
 use Rattle.loop_core.specs.declared.nest.Atom.{Atom}
 use Rattle.uf_constraints.specs.declared.system.Diff.{Diff}

@@ -13,7 +13,7 @@ use Rattle.bound_close.specs.declared.workings.Workings.{Workings}
 use Rattle.bound_close.specs.Exact.{Holds, Fails, IsLower, IsSound, Settled}
 use Rattle.bound_close.specs.Log.{IsLog, EdgesIn}
 use Rattle.bound_close.specs.Places.{place_in}
-use Rattle.bound_close.specs.Workings.{bounds, IsFine, Kept, Onward, Halted}
+use Rattle.bound_close.specs.Workings.{bounds, IsFine, Onward, Halted}
 
 -- these constraints of the base were taken in
 pub record Taken (u : List Atom) (base ds : List Diff) (old new : Workings) : Type 0 where

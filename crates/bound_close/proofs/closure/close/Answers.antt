@@ -1,6 +1,5 @@
-use Rattle.std.proofs.Common.{rules, ◌≡◌, ◌<◌, ◌∷◌, [], ℕ, length, true, false, Bool, refl}
+use Rattle.std.proofs.Common.{◌≡◌, ◌<◌, ℕ, length, true, false}
 use Rattle.bound_close.specs.Closure.{Closed}
-use Rattle.bound_close.specs.Marks.{no_edge}
 use Rattle.bound_close.specs.Rows.{unit_bound}
 use Rattle.bound_close.specs.Workings.{bounds, Kept, Refuted}
 use Rattle.bound_close.proofs.Closes.{kept-first, from_not_false, from_not_true}

@@ -1,4 +1,4 @@
-use Rattle.std.proofs.Common.{rules, ◌≡◌, sym, subst, List}
+use Rattle.std.proofs.Common.{sym, subst, List}
 use Rattle.loop_core.specs.declared.nest.Atom.{Atom}
 use Rattle.bound_close.specs.Closure.{IsBound}
 use Rattle.bound_close.proofs.Orders.{same-empty, same-answers}

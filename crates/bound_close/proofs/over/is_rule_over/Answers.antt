@@ -1,4 +1,3 @@
-use Rattle.std.proofs.Common.{sym}
 use Rattle.bound_close.proofs.over.is_rule_over.Goals as goal
 
 pub returns-then-are_over : goal.returns-then-are_over

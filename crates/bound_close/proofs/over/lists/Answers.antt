@@ -1,6 +1,5 @@
-use Rattle.std.proofs.Common.{rules, arith, ◌≡◌, ◌<◌, length, subst}
+use Rattle.std.proofs.Common.{arith}
 use Rattle.std.proofs.lemmas.Grind.{common_steps}
-use Rattle.bound_close.specs.Places.{place_in}
 use Rattle.bound_close.proofs.Atoms.{contains-place}
 use Rattle.bound_close.proofs.over.lists.Goals as goal
 

@@ -1,4 +1,4 @@
-use Rattle.std.proofs.Common.{rules, arith, ◌≡◌, ◌<◌, ◌∙◌, ap, sym, subst, length, true}
+use Rattle.std.proofs.Common.{arith, ◌≡◌, ◌∙◌, ap, sym}
 use Rattle.std.proofs.lemmas.List.{get_or_default}
 use Rattle.loop_core.specs.declared.nest.Atom.{Atom}
 use Rattle.loop_core.specs.declared.nest.Atom.TheVariants.{Zero}

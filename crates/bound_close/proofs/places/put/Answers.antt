@@ -1,5 +1,4 @@
-use Rattle.std.proofs.Common.{rules, arith, ◌≡◌, ◌<◌, length, subst, sym}
-use Rattle.bound_close.specs.Places.{place_in, atom_at}
+use Rattle.std.proofs.Common.{arith}
 use Rattle.bound_close.proofs.Atoms.{first-place, first-put}
 use Rattle.bound_close.proofs.places.put.Goals as goal
 

@@ -1,4 +1,3 @@
-use Rattle.std.proofs.Common.{rules}
 use Rattle.bound_close.proofs.plain.close.Goals as goal
 
 pub saturated-requires-clause-base : goal.saturated-requires-clause-base

@@ -1,7 +1,7 @@
-use Rattle.std.proofs.Common.{rules, arith, ◌≡◌, ◌∙◌, ◌++◌, ◌∷◌, [], length, List, ℤ, w64, to_z, of_z}
+use Rattle.std.proofs.Common.{rules, ◌≡◌, ◌∙◌, ◌++◌, ◌∷◌, [], w64, to_z, of_z}
 use Rattle.std.proofs.lemmas.Int.{to_z-of_z}
 use mir.Val.{SFits}
-use Rattle.bound_close.specs.Rows.{far, cell, lowered}
+use Rattle.bound_close.specs.Rows.{far, lowered}
 use Rattle.bound_close.proofs.Sets.{push-done}
 use Rattle.bound_close.proofs.row.cells_by_way.Goals as goal
 

@@ -1,4 +1,4 @@
-use Rattle.std.proofs.Common.{rules, ◌≡◌, ◌<◌, ◌≤◌, ◌∙◌, ap, ℕ, length, pos, ◌+ℤ◌, ◌≤ℤ◌, slice_index_or, cond, ◌+◌, arith, w64, to_z, of_z, slice_set}
+use Rattle.std.proofs.Common.{rules, ◌≡◌, ◌∙◌, ℕ, pos, slice_index_or, arith, w64, to_z, of_z}
 use Rattle.std.proofs.lemmas.List.{get_or_default}
 use Rattle.std.proofs.lemmas.Int.{to_z-of_z}
 use Rattle.bound_close.specs.Rows.{far, cell, step, mark_of}

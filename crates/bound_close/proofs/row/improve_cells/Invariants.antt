@@ -1,4 +1,4 @@
-use Rattle.std.proofs.Common.{ℕ, ◌<◌, ◌≤◌, ◌≡◌, length, slice_index_or}
+use Rattle.std.proofs.Common.{ℕ, ◌<◌, ◌≤◌, ◌≡◌, slice_index_or}
 use Rattle.bound_close.specs.Rows.{cell, step, mark_of}
 use Rattle.bound_close.proofs.row.improve_cells.Given as goal
 

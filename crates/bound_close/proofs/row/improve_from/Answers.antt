@@ -1,8 +1,8 @@
-use Rattle.std.proofs.Common.{rules, ◌≡◌, ◌<◌, ◌≤◌, ℕ, length, pos, slice_index_or, cond, arith, w64, to_z, of_z, true, subst, sym}
+use Rattle.std.proofs.Common.{rules, ◌≡◌, arith, w64, to_z, of_z, true}
 use Rattle.std.specs.Int.Signed.{◌<ℤ◌, lt_z}
 use Rattle.std.proofs.lemmas.Int.{ints, to_z-of_z}
 use mir.Val.{SFits}
-use Rattle.bound_close.specs.Rows.{far, cell, entry, step, Range, Within, lowered}
+use Rattle.bound_close.specs.Rows.{far, cell, Within}
 use Rattle.bound_close.proofs.Sets.{lowered-from, Within-add}
 use Rattle.bound_close.proofs.row.improve_from.Goals as goal
 

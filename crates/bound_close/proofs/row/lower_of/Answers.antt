@@ -3,7 +3,7 @@ use Rattle.std.specs.Int.Signed.{◌<ℤ◌, lt_z}
 use Rattle.std.proofs.lemmas.Int.{ints, to_z-of_z}
 use Rattle.std.proofs.Common.{arith}
 use mir.Val.{SFits}
-use Rattle.bound_close.specs.Rows.{far, Within, step}
+use Rattle.bound_close.specs.Rows.{far}
 use Rattle.bound_close.proofs.Sets.{Within-add, lowered-from}
 use Rattle.bound_close.proofs.row.lower_of.Goals as goal
 

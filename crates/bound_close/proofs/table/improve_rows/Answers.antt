@@ -1,4 +1,4 @@
-use Rattle.std.proofs.Common.{rules, ◌≡◌, ◌<◌, ◌≤◌, ℕ, ℤ, List, length, pos, slice_index_or, [], arith, w64, to_z, of_z, slice_set, ap, ◌∙◌, sym, subst}
+use Rattle.std.proofs.Common.{◌≡◌, ◌<◌, ℕ, ℤ, List, length, slice_index_or, [], arith, w64, to_z, of_z, ap, ◌∙◌}
 use Rattle.std.proofs.lemmas.List.{length-set, get_or_default}
 use Rattle.bound_close.specs.Rows.{cell, lowered, AreMarked}
 use Rattle.bound_close.proofs.Sets.{put-done, put-all, put-left, put-two}

@@ -1,4 +1,4 @@
-use Rattle.std.proofs.Common.{rules, arith, ◌≡◌, length}
+use Rattle.std.proofs.Common.{arith}
 use Rattle.bound_close.proofs.Improve.{IsTable-unit}
 use Rattle.bound_close.proofs.table.new_rows.Goals as goal
 

@@ -1,4 +1,4 @@
-use Rattle.std.proofs.Common.{ℕ, ◌<◌, ◌≤◌, ◌≡◌, length, slice_index_or, []}
+use Rattle.std.proofs.Common.{ℕ, ◌<◌, ◌≡◌, length, slice_index_or, []}
 use Rattle.bound_close.specs.Rows.{entry, unit_bound}
 use Rattle.bound_close.proofs.table.new_rows.Given as goal
 

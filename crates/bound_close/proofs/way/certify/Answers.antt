@@ -1,4 +1,4 @@
-use Rattle.std.proofs.Common.{rules, arith, ◌≡◌, ◌<◌, length, take}
+use Rattle.std.proofs.Common.{arith, ◌<◌, length, take}
 use Rattle.std.proofs.lemmas.List.{take_more}
 use Rattle.bound_close.proofs.Grow.{over-item}
 use Rattle.bound_close.proofs.Named.{naming-more}

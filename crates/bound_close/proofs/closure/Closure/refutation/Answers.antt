@@ -1,6 +1,5 @@
-use Rattle.std.proofs.Common.{rules, ◌≡◌, true, sym, subst, ◌∙◌, ap}
-use Rattle.index_props.specs.Derivable.{IsContradictory}
-use Rattle.bound_close.specs.Closure.{Found, IsClosure, ShowsContradiction}
+use Rattle.std.proofs.Common.{◌≡◌, true, sym, ◌∙◌, ap}
+use Rattle.bound_close.specs.Closure.{Found}
 use Rattle.bound_close.proofs.Closes.{refutes}
 use Rattle.bound_close.proofs.closure.Closure.refutation.Goals as goal
 

@@ -1,4 +1,4 @@
-use Rattle.std.proofs.Common.{rules, ◌≡◌, false, sym, subst}
+use Rattle.std.proofs.Common.{◌≡◌, sym, subst}
 use Rattle.bound_close.specs.Closure.{IsBound}
 use Rattle.bound_close.specs.Plain.{Saturated, IsSaturation}
 use Rattle.bound_close.specs.Rows.{entry}

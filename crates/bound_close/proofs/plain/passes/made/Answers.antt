@@ -1,4 +1,4 @@
-use Rattle.std.proofs.Common.{rules, ◌≡◌, ◌<◌, ℕ, length}
+use Rattle.std.proofs.Common.{◌≡◌, ◌<◌, ℕ, length}
 use Rattle.bound_close.specs.Rows.{entry, unit_bound}
 use Rattle.bound_close.proofs.Visits.{made-stops, made-opposed, made-is}
 use Rattle.bound_close.proofs.plain.passes.made.Goals as goal

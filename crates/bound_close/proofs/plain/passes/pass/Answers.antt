@@ -1,4 +1,4 @@
-use Rattle.std.proofs.Common.{rules, arith, ◌≡◌, ◌<◌, length, ℕ, subst}
+use Rattle.std.proofs.Common.{arith, ◌≡◌, ◌<◌, length, ℕ, subst}
 use Rattle.bound_close.specs.Plain.{Visited}
 use Rattle.bound_close.proofs.Visits.{visited-none, visited-next}
 use Rattle.bound_close.proofs.plain.passes.pass.Goals as goal

@@ -1,4 +1,4 @@
-use Rattle.std.proofs.Common.{rules, arith, ◌≡◌, ◌<◌, ◌∙◌, ◌++◌, length, take, drop, false, Bool, List, subst}
+use Rattle.std.proofs.Common.{rules, arith, ◌≡◌, ◌<◌, ◌∙◌, ◌++◌, length, take, drop, false, Bool, subst}
 use Rattle.bound_close.specs.Plain.{IsMade, Visited}
 use Rattle.bound_close.proofs.Edges.{lent}
 use Rattle.bound_close.proofs.Visits.{saturated-is}

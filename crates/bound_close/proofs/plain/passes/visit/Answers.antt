@@ -1,4 +1,4 @@
-use Rattle.std.proofs.Common.{rules, arith, ◌≡◌, ◌<◌, ◌∙◌, ap, length, List, subst, sym, slice_get, Some}
+use Rattle.std.proofs.Common.{rules, ◌≡◌, ◌∙◌, ap, List, subst, sym}
 use Rattle.uf_constraints.specs.declared.system.Diff.{Diff}
 use Rattle.index_props.specs.declared.rule.RuleInst.{RuleInst}
 use Rattle.bound_close.specs.Exact.{Holds, Fails}

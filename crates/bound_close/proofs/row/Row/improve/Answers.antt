@@ -1,4 +1,4 @@
-use Rattle.std.proofs.Common.{rules, arith, w64, to_z, of_z}
+use Rattle.std.proofs.Common.{rules, arith, w64}
 use Rattle.std.proofs.lemmas.Int.{to_z-of_z}
 use Rattle.std.proofs.lemmas.Grind.{common_steps}
 use mir.Val.{SFits}

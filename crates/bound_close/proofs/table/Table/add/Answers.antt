@@ -1,8 +1,7 @@
-use Rattle.std.proofs.Common.{rules, arith, ◌≡◌, ◌<◌, ◌++◌, ◌∷◌, ℕ, ℤ, List, [], length, take, drop, slice_index_or, subst, sym, ◌∙◌, w64, to_z, of_z}
+use Rattle.std.proofs.Common.{rules, arith, ◌≡◌, ◌++◌, ◌∷◌, ℤ, List, [], length, take, drop, subst, sym, ◌∙◌, w64}
 use Rattle.std.proofs.lemmas.Int.{to_z-of_z}
 use mir.Val.{SFits}
 use Rattle.bound_close.specs.Rows.{Adds, IsMarks, AllMarked, entry}
-use Rattle.bound_close.specs.Marks.{IsTraced}
 use Rattle.bound_close.proofs.Edges.{lent, IsTraced-add}
 use Rattle.bound_close.proofs.table.Table.add.Goals as goal
 

@@ -1,4 +1,4 @@
-use Rattle.std.proofs.Common.{rules, arith, ◌≡◌, ◌<◌, length}
+use Rattle.std.proofs.Common.{arith}
 use Rattle.bound_close.proofs.Grow.{over-item}
 use Rattle.bound_close.proofs.Takes.{base-next, base-stop}
 use Rattle.bound_close.proofs.workings.Workings.add_base.Goals as goal

@@ -1,4 +1,4 @@
-use Rattle.std.proofs.Common.{rules, arith, ap, ◌≡◌, ◌<◌, ◌∙◌, length, slice_get, Some, List, subst, sym}
+use Rattle.std.proofs.Common.{arith, ap, ◌≡◌, ◌∙◌, List, subst, sym}
 use Rattle.uf_constraints.specs.declared.system.Diff.{Diff}
 use Rattle.index_props.specs.declared.rule.RuleInst.{RuleInst}
 use Rattle.bound_close.specs.Over.{AreOver}

@@ -1,13 +1,12 @@
-use Rattle.std.proofs.Common.{rules, arith, ap, ◌≡◌, ◌<◌, ◌∙◌, length, slice_get, Some, List, subst, sym, refl, true, false, ℕ}
+use Rattle.std.proofs.Common.{ap, ◌≡◌, ◌∙◌, slice_get, Some, List, subst, sym, refl, true, false}
 use Rattle.uf_constraints.specs.declared.system.Diff.{Diff}
 use Rattle.index_props.specs.declared.rule.RuleInst.{RuleInst}
 use Rattle.bound_close.specs.declared.workings.Workings.{Workings}
 use Rattle.bound_close.specs.Exact.{Holds}
 use Rattle.bound_close.specs.Log.{Naming}
-use Rattle.bound_close.specs.Over.{AreOver, IsRuleOver}
-use Rattle.bound_close.specs.Passes.{Applied, Ready, Forward, Stopped, ResultsHold}
+use Rattle.bound_close.specs.Over.{AreOver}
+use Rattle.bound_close.specs.Passes.{Applied, Ready, Forward, Stopped}
 use Rattle.bound_close.specs.Workings.{bounds, Refuted}
-use Rattle.bound_close.proofs.Grow.{over-item}
 use Rattle.bound_close.proofs.Takes.{got, got-is, contains-got, Holds-all, if-ok-map, fire-forward, fire-stop}
 use Rattle.bound_close.proofs.workings.Workings.fire.Goals as goal
 

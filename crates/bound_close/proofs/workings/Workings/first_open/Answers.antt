@@ -1,5 +1,4 @@
-use Rattle.std.proofs.Common.{rules, arith, ◌≡◌, ◌<◌, length, sym}
-use Rattle.bound_close.specs.Exact.{Holds}
+use Rattle.std.proofs.Common.{arith, ◌≡◌, length, sym}
 use Rattle.bound_close.specs.Workings.{bounds}
 use Rattle.bound_close.proofs.Grow.{over-item}
 use Rattle.bound_close.proofs.Takes.{Holds-more}

@@ -1,4 +1,4 @@
-use Rattle.std.proofs.Common.{rules, arith, ◌≡◌, ◌<◌, length}
+use Rattle.std.proofs.Common.{arith}
 use Rattle.bound_close.proofs.Grow.{a_in}
 use Rattle.bound_close.proofs.workings.Workings.knows.Goals as goal
 

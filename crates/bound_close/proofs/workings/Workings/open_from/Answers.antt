@@ -1,4 +1,4 @@
-use Rattle.std.proofs.Common.{rules, arith, ◌≡◌, ◌<◌, ◌-◌, length}
+use Rattle.std.proofs.Common.{◌-◌, length}
 use Rattle.bound_close.specs.Workings.{bounds}
 use Rattle.bound_close.proofs.Passing.{fails-at}
 use Rattle.bound_close.proofs.workings.Workings.open_from.Goals as goal

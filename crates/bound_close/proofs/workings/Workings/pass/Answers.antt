@@ -1,4 +1,4 @@
-use Rattle.std.proofs.Common.{None, rules, arith, ◌≡◌, ◌<◌, length, slice_index_or, []}
+use Rattle.std.proofs.Common.{None, arith, ◌<◌, length, slice_index_or, []}
 use Rattle.std.proofs.lemmas.List.{get_or_default}
 use Rattle.std.proofs.lemmas.List.Elements.{Contains-get_or}
 use Rattle.bound_close.specs.declared.waiting.Waiting.{Waiting}

@@ -1,4 +1,4 @@
-use Rattle.std.proofs.Common.{rules, arith, ◌≡◌, ◌≤◌, length, true, false}
+use Rattle.std.proofs.Common.{arith, ◌≡◌, ◌≤◌, length, true, false}
 use Rattle.bound_close.specs.Closure.{Closed}
 use Rattle.bound_close.specs.Passes.{Forward, Stopped, AllSettled}
 use Rattle.bound_close.specs.Workings.{Kept, Halted}

@@ -1,4 +1,4 @@
-use Rattle.std.proofs.Common.{rules, arith, ◌≡◌, ◌<◌, length}
+use Rattle.std.proofs.Common.{arith, ◌≡◌, length}
 use Rattle.bound_close.specs.Passes.{Passed}
 use Rattle.bound_close.proofs.Passing.{saturating-first, saturating-next, saturating-stop, saturating-done}
 use Rattle.bound_close.proofs.workings.Workings.saturate.Goals as goal

@@ -1,4 +1,3 @@
-use Rattle.std.proofs.Common.{rules, ◌≡◌}
 use Rattle.bound_close.specs.Workings.{bounds}
 use Rattle.bound_close.proofs.workings.Workings.still_fails.Goals as goal
 

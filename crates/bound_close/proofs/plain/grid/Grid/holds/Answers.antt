@@ -1,4 +1,4 @@
-use Rattle.std.proofs.Common.{rules, arith, ◌≡◌, ◌<◌, length, sym}
+use Rattle.std.proofs.Common.{arith, sym}
 use Rattle.bound_close.specs.Rows.{entry}
 use Rattle.bound_close.proofs.Grow.{over-item}
 use Rattle.bound_close.proofs.Takes.{Holds-more, Holds-all}

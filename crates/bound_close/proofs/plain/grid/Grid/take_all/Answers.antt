@@ -1,4 +1,4 @@
-use Rattle.std.proofs.Common.{rules, arith, ◌≡◌, ◌<◌, length}
+use Rattle.std.proofs.Common.{arith}
 use Rattle.bound_close.proofs.Grids.{list-next, list-stop}
 use Rattle.bound_close.proofs.Grow.{over-item}
 use Rattle.bound_close.proofs.plain.grid.Grid.take_all.Goals as goal

@@ -1,4 +1,4 @@
-use Rattle.std.proofs.Common.{rules, arith, ◌≡◌, ◌<◌, length}
+use Rattle.std.proofs.Common.{arith}
 use Rattle.bound_close.proofs.Grids.{fired-next, fired-stop}
 use Rattle.bound_close.proofs.Takes.{got, contains-got}
 use Rattle.bound_close.proofs.plain.grid.Grid.take_fired.Goals as goal

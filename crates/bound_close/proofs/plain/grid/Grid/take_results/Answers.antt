@@ -1,8 +1,8 @@
-use Rattle.std.proofs.Common.{rules, ◌≡◌, subst, sym, false, List}
+use Rattle.std.proofs.Common.{◌≡◌, subst, sym, false, List}
 use Rattle.std.specs.List.{Contains}
 use Rattle.uf_constraints.specs.declared.system.Diff.{Diff}
 use Rattle.bound_close.specs.Over.{AreOver}
-use Rattle.bound_close.specs.Plain.{Opposed, TakenIn}
+use Rattle.bound_close.specs.Plain.{Opposed}
 use Rattle.bound_close.proofs.Takes.{if-ok-map}
 use Rattle.bound_close.proofs.plain.grid.Grid.take_results.Goals as goal
 
