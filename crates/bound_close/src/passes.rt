@@ -128,7 +128,7 @@ impl Workings {
     {
         let mut waiting = all_below(alloc, rules.len())?;
         'passes: loop {
-            let mut still = Vec::new(alloc);
+            let mut still = Vec::with_capacity(alloc, waiting.len())?;
             if !self.pass(alloc, atoms, rules, &waiting, &mut still)? {
                 return Ok(false);
             }
@@ -145,7 +145,7 @@ fn all_below(alloc: Global, n: usize) -> Result<Vec<Waiting>, Memory>
     ensures each { IfOk result (λ v. (k : ℕ) → k < n → Contains v.items (record { rule = k; premise = 0; seen = None })) }
     ensures below { IfOk result (λ v. (x : Waiting) → Contains v.items x → (x.rule < n) × (x.premise ≡ 0) × (x.seen ≡ None)) }
 {
-    let mut waiting = Vec::new(alloc);
+    let mut waiting = Vec::with_capacity(alloc, n)?;
     for rule in 0..n {
         waiting.push(Waiting {
             rule,
