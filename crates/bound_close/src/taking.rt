@@ -2,7 +2,7 @@
 ghost use Rattle.std.specs.Int.Signed.{◌<ℤ◌};
 ghost use Rattle.bound_close.specs.Passes.{IsWatched};
 ghost use Rattle.bound_close.specs.Places.{place_in};
-ghost use Rattle.std.specs.Prelude.{◌≡◌, ◌<◌, ◌≤◌, length, true, false, IfOk, List, slice_get, take, Some};
+ghost use Rattle.std.specs.Prelude.{◌≤ℤ◌, ◌≡◌, ◌<◌, ◌≤◌, length, true, false, IfOk, List, slice_get, take, Some};
 
 use crate::between::Between;
 use crate::places::Places;
@@ -125,7 +125,8 @@ impl Workings {
 
     /// Whether the bound between two places is above a right side. It takes no memory.
     pub fn is_above(&self, seen: &Between) -> bool
-        ensures { result ≡ true → seen.now.bound <ℤ bounds self.now seen.now.x seen.now.y }
+        ensures above { result ≡ true → seen.now.bound <ℤ bounds self.now seen.now.x seen.now.y }
+        ensures known { result ≡ false → seen.now.x < length self.now.table.rows.items → bounds self.now seen.now.x seen.now.y ≤ℤ seen.now.bound }
     {
         if seen.x >= self.table.rows.len() {
             return false;
