@@ -267,25 +267,34 @@ fn counts_constants(rt: HostRuntime) -> Result<(), Fail> {
     Ok(())
 }
 
+const LOOP: &[u8] = b"matrix a csr\nvector x n zero\nvector y n zero\nloop i\n";
+
 #[test]
-fn counts_loops_and_references(rt: HostRuntime) -> Result<(), Fail> {
-    let read = LoopRefusal::Memory;
+fn counts_loops(rt: HostRuntime) -> Result<(), Fail> {
     let five =
         b"for j in 0..n\nfor k in 0..n\nfor l in 0..n\nwhen 0 < n\nfor o in 0..n\nfor p in 0..n\n";
-    let lines: [(&[u8], u32, &[u8], LoopRefusal); 8] = [
-        (five, 1, b"end\nend\nend\nend\nend\nend\nend", read),
+    let lines: [(&[u8], LoopRefusal); 3] = [
+        (b"end\nend\nend\nend\nend\nend\nend", LoopRefusal::Memory),
         (
-            five,
-            1,
             b"for q in 0..n\nend\nend\nend\nend\nend\nend\nend\nend",
             limit(11, LimitKind::Depth),
         ),
         (
-            five,
-            1,
             b"for q in 0..1048577\nend\nend\nend\nend\nend\nend\nend\nend",
             limit(11, LimitKind::Constant),
         ),
+    ];
+    for (end, why) in lines {
+        let text = long(rt.alloc(), LOOP, five, 1, end)?;
+        assert_eq!(rt; refused(rt.alloc(), text.as_slice())?, why);
+    }
+    Ok(())
+}
+
+#[test]
+fn counts_references(rt: HostRuntime) -> Result<(), Fail> {
+    let read = LoopRefusal::Memory;
+    let lines: [(&[u8], u32, &[u8], LoopRefusal); 5] = [
         (b"set x[i] = x[0]", 1, b"\nset x[i] = y[i]\nend", read),
         (
             b"set x[i] = 1",
@@ -308,14 +317,8 @@ fn counts_loops_and_references(rt: HostRuntime) -> Result<(), Fail> {
         ),
     ];
     for (line, times, end, why) in lines {
-        let front = long(
-            rt.alloc(),
-            b"matrix a csr\nvector x n zero\nvector y n zero\nloop i\n",
-            line,
-            times,
-            end,
-        )?;
-        assert_eq!(rt; refused(rt.alloc(), front.as_slice())?, why);
+        let text = long(rt.alloc(), LOOP, line, times, end)?;
+        assert_eq!(rt; refused(rt.alloc(), text.as_slice())?, why);
     }
     Ok(())
 }
