@@ -8,6 +8,7 @@ use crate::waiting::Waiting;
 use crate::workings::Workings;
 use index_props::rule::RuleInst;
 use std::alloc::Global;
+use std::mem::swap;
 use wave_base::types::Memory;
 
 impl Workings {
@@ -127,15 +128,16 @@ impl Workings {
         ensures stopped { IfOk result (λ fine. fine ≡ false → Stopped atoms.now rules.now self.old self.new) }
     {
         let mut waiting = all_below(alloc, rules.len())?;
+        let mut still = Vec::with_capacity(alloc, rules.len())?;
         'passes: loop {
-            let mut still = Vec::with_capacity(alloc, waiting.len())?;
+            still.clear();
             if !self.pass(alloc, atoms, rules, &waiting, &mut still)? {
                 return Ok(false);
             }
             if still.len() == waiting.len() {
                 return Ok(true);
             }
-            waiting = still;
+            swap(&mut waiting, &mut still);
         }
     }
 }

@@ -26,4 +26,5 @@ returns-then-len-clause-settled c = λ _.
 pub passes-preserved : goal.passes-preserved
 passes-preserved c =
     let p : Passed c.args.atoms.now c.args.rules.now c.passes.self c.pass.new.self c.passes.waiting.items c.pass.new.still.items = rw c.deref.ensures.value at (c.in_ok-pass.ensures.passed c.if-not-branch.false) in
-    saturating-next c.args.atoms.now c.args.rules.now c.requires.over c.args.self.now c.passes.self c.pass.new.self c.passes.waiting.items c.pass.new.still.items c.passes.invariant p
+    let s = saturating-next c.args.atoms.now c.args.rules.now c.requires.over c.args.self.now c.passes.self c.pass.new.self c.passes.waiting.items c.pass.new.still.items c.passes.invariant p in
+    rw c.swap.ensures.x_after s
