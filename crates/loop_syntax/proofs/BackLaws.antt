@@ -6,7 +6,7 @@ use Rattle.std.proofs.lemmas.Bool.Decides.{nat_tests}
 use Rattle.text_base.specs.Lines.{lines}
 use Rattle.loop_core.specs.declared.nest.Nest.{Nest}
 use Rattle.loop_lines.specs.Words.{either}
-use Rattle.loop_lines.specs.Fitting.{misfit, start}
+use Rattle.loop_lines.specs.Fitting.{start}
 use Rattle.loop_syntax.specs.declared.refusal.LimitKind.{LimitKind}
 use Rattle.loop_syntax.specs.declared.refusal.NameKind.{NameKind}
 use Rattle.loop_syntax.specs.declared.refusal.LoopRefusal.TheVariants as refusals
@@ -19,7 +19,7 @@ use Rattle.loop_syntax.specs.TextNest.{IsNestOf, refusal, IsRead}
 use Rattle.loop_syntax.specs.ShownText.{shown_lines, unlines, AreShort, place}
 use Rattle.loop_syntax.specs.Renumbered.{renumbered}
 use Rattle.loop_syntax.proofs.FewLaws.{Below, below, either_none, short_of}
-use Rattle.loop_syntax.proofs.ReadLaws.{map_none, misfits, faults, limits}
+use Rattle.loop_syntax.proofs.ReadLaws.{faults, limits, Passes, passes_all}
 use Rattle.loop_syntax.proofs.BackText.{are_showable, lines_back, counted_back, shown_length, numbered_length}
 use Rattle.loop_syntax.proofs.BackFits.{leads_behind, fits_back}
 use Rattle.loop_syntax.proofs.BackNumbers.{with_number, numbers_are, place_zero}
@@ -36,22 +36,7 @@ anew ls = place (numbered ls)
 lines_are : (ls : List (List ℕ)) → AreShort (texts ls) → numbered (texts ls) ≡ map (with_number (anew ls)) (numbered ls)
 lines_are ls short = counted_back 1 0 (numbered ls) (are_showable 1 ls) short ∙ sym (numbers_are ls)
 
--- ---- what a text that isn't refused passes
-
-record Passes (ls : List (List ℕ)) : Type 0 where
-  fits : misfit start 1 ls ≡ None
-  named : first_fault empty (numbered ls) ≡ None
-  limited : first_limit (length ls) (numbered ls) ≡ None
-
-passes : (ls : List (List ℕ)) → refusal ls ≡ None → Passes ls
-passes ls e =
-    let a = either_none (misfits ls) (either (faults ls) (limits ls)) e in
-    let b = either_none (faults ls) (limits ls) a.1 in
-    record {
-      fits = map_none refusals.Text (misfit start 1 ls) a.0;
-      named = map_none (λ (fault : ℕ × NameKind). refusals.Name fault.0 fault.1) (first_fault empty (numbered ls)) b.0;
-      limited = map_none (λ (passed : ℕ × LimitKind). refusals.Limit passed.0 passed.1) (first_limit (length ls) (numbered ls)) b.1;
-    }
+-- ---- a text that passes all isn't refused
 
 accepted : (ls : List (List ℕ)) → Passes ls → refusal ls ≡ None
 accepted ls p =
@@ -110,7 +95,7 @@ pub shown_reads_back : (ls : List (List ℕ)) (nest : Nest) → IsRead ls nest �
 shown_reads_back ls nest read short =
     let same = nest_with (anew ls) (place_zero ls) (numbered ls) nest read.of_text in
     let P : List Numbered → Type 0 = λ all. IsNestOf all (renumbered (anew ls) nest) in
-    (lines_back 0 (numbered ls) (are_showable 1 ls), record { accepted = accepted (texts ls) (passes_back ls short (passes ls read.accepted)); of_text = subst P (sym (lines_are ls short)) same })
+    (lines_back 0 (numbered ls) (are_showable 1 ls), record { accepted = accepted (texts ls) (passes_back ls short (passes_all ls read.accepted)); of_text = subst P (sym (lines_are ls short)) same })
 
 -- the same of a text that has these lines
 pub text_reads_back : (ls : List (List ℕ)) (nest : Nest) (text : List ℕ) → text ≡ unlines (shown_lines 0 (numbered ls)) → IsRead ls nest → AreShort (lines text)

@@ -93,19 +93,33 @@ keeps l s count e =
 abbrev then_passed : ℕ → Option LimitKind → Option (ℕ × LimitKind) → Option (ℕ × LimitKind)
 then_passed n limit more = or_else limit (λ kind. Some (n, kind)) more
 
-then_none : (n : ℕ) (limit : Option LimitKind) (more : Option (ℕ × LimitKind)) → then_passed n limit more ≡ None → (limit ≡ None) × (more ≡ None)
+-- where neither of two gives anything
+pub then_none : {K : Type 0} (n : ℕ) (first : Option K) (more : Option (ℕ × K)) → or_else first (λ kind. Some (n, kind)) more ≡ None → (first ≡ None) × (more ≡ None)
 then_none n None more e = (refl, e)
 then_none n (Some kind) more e = absurd cc
+
+first_is : (written : List ℕ) (s : Scope) (count : ℕ) (l : Numbered) (ls : List Numbered) → l.number ≤ 400
+    → first_passed written s count (filter is_within (l ∷ ls))
+    ≡ then_passed l.number (limits_at l.line (scope_after s l) (count + references written s l.line)) (first_passed written (scope_after s l) (count + references written s l.line) (filter is_within ls))
+first_is written s count l ls near =
+    let within : nat_le l.number 400 ≡ true = grind (arith, nat_tests, near) in
+    rw within refl
+
+-- lines of which none passes a limit: the first passes none, nor do those behind it
+pub limits_first : (written : List ℕ) (s : Scope) (count : ℕ) (l : Numbered) (ls : List Numbered) → l.number < 401 → first_passed written s count (filter is_within (l ∷ ls)) ≡ None
+    → (limits_at l.line (scope_after s l) (count + references written s l.line) ≡ None)
+    × (first_passed written (scope_after s l) (count + references written s l.line) (filter is_within ls) ≡ None)
+limits_first written s count l ls lt e =
+    let behind = scope_after s l in
+    let so_far = count + references written s l.line in
+    then_none l.number (limits_at l.line behind so_far) (first_passed written behind so_far (filter is_within ls)) (sym (first_is written s count l ls (omega (arith, lt))) ∙ e)
 
 few_from : (written : List ℕ) (s : Scope) (count : ℕ) (ls : List Numbered) → Below 401 ls → first_passed written s count (filter is_within ls) ≡ None → AreFew s ls
 few_from written s count [] b e = tt
 few_from written s count (l ∷ ls) b e =
-    let near : nat_le l.number 400 ≡ true = grind (arith, nat_tests, b.0) in
     let behind = scope_after s l in
     let so_far = count + references written s l.line in
-    let more = first_passed written behind so_far (filter is_within ls) in
-    let e2 : then_passed l.number (limits_at l.line behind so_far) more ≡ None = subst (λ (v : Bool). first_passed written s count (if v then l ∷ filter is_within ls else filter is_within ls) ≡ None) near e in
-    let t = then_none l.number (limits_at l.line behind so_far) more e2 in
+    let t = limits_first written s count l ls b.0 e in
     let k = keeps l.line behind so_far t.0 in
     (omega (arith, b.0), k.arrays, k.loops, few_from written behind so_far ls b.1 t.1)
 
@@ -115,13 +129,17 @@ past_lines b = if b then Some (401, Lines) else None
 pub short_of : (count : ℕ) → lines_limit count ≡ None → count ≤ 400
 short_of count e = known (nat_lt 400 count) (λ h. absurd (absent (subst (λ (v : Bool). past_lines v ≡ None) h e))) (λ h. grind (arith, nat_tests, h))
 
--- a text that passes no limit
-pub few : (ls : List (List ℕ)) → first_limit (length ls) (numbered_from 1 ls) ≡ None → AreFew empty (numbered_from 1 ls)
-few ls e =
+-- a text that passes no limit: none of its lines does, and none is behind line 400
+pub limits_of : (ls : List (List ℕ)) → first_limit (length ls) (numbered_from 1 ls) ≡ None
+    → (first_passed (targets empty (numbered_from 1 ls)) empty 0 (filter is_within (numbered_from 1 ls)) ≡ None) × Below 401 (numbered_from 1 ls)
+limits_of ls e =
     let all = numbered_from 1 ls in
     let a = either_none (first_passed (targets empty all) empty 0 (filter is_within all)) (lines_limit (length ls)) e in
     let short : length ls ≤ 400 = short_of (length ls) a.1 in
-    few_from (targets empty all) empty 0 all (below 1 401 ls (omega (arith, short))) a.0
+    (a.0, below 1 401 ls (omega (arith, short)))
+
+pub few : (ls : List (List ℕ)) → first_limit (length ls) (numbered_from 1 ls) ≡ None → AreFew empty (numbered_from 1 ls)
+few ls e = let a = limits_of ls e in few_from (targets empty (numbered_from 1 ls)) empty 0 (numbered_from 1 ls) a.1 a.0
 
 -- ---- the lines of a text, counted
 
@@ -173,12 +191,6 @@ limit_is : (flags : List Bool) (written : List ℕ) (s behind : Scope) (count co
 limit_is flags written s behind count counted l limit are step =
     let same = same_count flags written s l.line are in
     step.limited ∙ ap (limits_at l.line (scope_after s l)) step.counts ∙ capped_limit l.line (scope_after s l) (count + flagged flags s (data_arrays l.line)) ∙ ap (λ (r : ℕ). limits_at l.line (scope_after s l) (count + r)) same
-
-first_is : (written : List ℕ) (s : Scope) (count : ℕ) (l : Numbered) (after : List Numbered) → l.number ≤ 400
-    → first_passed written s count (filter is_within (l ∷ after)) ≡ then_passed l.number (limits_at l.line (scope_after s l) (count + references written s l.line)) (first_passed written (scope_after s l) (count + references written s l.line) (filter is_within after))
-first_is written s count l after near =
-    let within : nat_le l.number 400 ≡ true = grind (arith, nat_tests, near) in
-    rw within refl
 
 pub passes : (flags : List Bool) (written : List ℕ) (s behind : Scope) (count counted : ℕ) (before after : List Numbered) (o : Option Numbered) (l : Numbered) (limit : Option LimitKind) (kind : LimitKind) (total : Option (ℕ × LimitKind))
     → AreFlagged flags written → Follows before o after → o ≡ Some l → l.number ≤ 400 → Stepped flags s count l behind counted limit → limit ≡ Some kind

@@ -30,3 +30,15 @@ pub mod BackTerms
 pub mod BackItems
 pub mod BackNest
 pub mod BackLaws
+pub mod NestForms
+pub mod NestBody
+pub mod NestLayers
+pub mod NestCounts
+pub mod NestUses
+pub mod NestKinds
+pub mod NestProps
+pub mod NestNames
+pub mod NestMatrix
+pub mod NestDistinct
+pub mod NestScopes
+pub mod NestRead

@@ -1,5 +1,5 @@
 -- The lines of the loop show what the lines of the text say.
-use Rattle.std.proofs.Common.{◌≡◌, ℕ, zero, suc, ◌+◌, ◌≤◌, codes, List, [], ◌∷◌, ◌++◌, length, Option, Some, None, refl, sym, ap, ◌∙◌, append_assoc, arith}
+use Rattle.std.proofs.Common.{◌≡◌, ℕ, zero, suc, ◌+◌, ◌≤◌, codes, List, [], ◌∷◌, ◌++◌, length, None, refl, sym, ap, ◌∙◌, append_assoc, arith}
 use Rattle.loop_core.specs.declared.decl.Decl.{Decl}
 use Rattle.loop_core.specs.declared.nest.Rel.{Rel}
 use Rattle.loop_core.specs.declared.nest.Rel.TheVariants as rels
@@ -8,11 +8,9 @@ use Rattle.loop_lines.specs.declared.line.Line.TheVariants as lines
 use Rattle.loop_lines.specs.declared.tree.ArrayName.{ArrayName}
 use Rattle.loop_lines.specs.declared.tree.NamedTerm.{NamedTerm}
 use Rattle.loop_lines.specs.declared.tree.NamedExpr.{NamedExpr}
-use Rattle.loop_lines.specs.Reading.{or_else}
 use Rattle.loop_lines.specs.Words.{either}
 use Rattle.loop_lines.specs.Shown.{shown_rel, shown_term, shown_entry, shown_line}
 use Rattle.loop_lines.specs.Showable.{IsShowable}
-use Rattle.loop_syntax.specs.declared.refusal.NameKind.{NameKind}
 use Rattle.loop_syntax.specs.declared.numbered.Numbered.{Numbered}
 use Rattle.loop_syntax.specs.declared.scope.ArrayUse.{ArrayUse}
 use Rattle.loop_syntax.specs.declared.scope.ArrayUse.TheVariants as uses
@@ -29,6 +27,7 @@ use Rattle.loop_syntax.specs.PrintExprs.{expr_text}
 use Rattle.loop_syntax.specs.PrintItems.{rel_text, span_text, indent, line_text}
 use Rattle.loop_syntax.specs.ShownText.{margin, one_less, shown_lines, unlines}
 use Rattle.loop_syntax.proofs.FewLaws.{Rise, either_none}
+use Rattle.loop_syntax.proofs.ReadLaws.{fine_first}
 use Rattle.loop_syntax.proofs.ShownNames.{IsArray, Fall, fall_below, fall_outer, Named, named_behind, Knows, knows}
 use Rattle.loop_syntax.proofs.ShownTrees.{entry_is, term_shows, value_shows}
 use Rattle.loop_syntax.proofs.ShownMarks.{marks_text}
@@ -48,13 +47,6 @@ pub record Reads (decls : List Decl) (s : Scope) (n : ℕ) (ls : List Numbered) 
   pub fall : Fall n s.blocks
   pub showable : AreShowable ls
 
-fault_none : (n : ℕ) (o : Option NameKind) (more : Option (ℕ × NameKind)) → or_else o (λ kind. Some (n, kind)) more ≡ None → (o ≡ None) × (more ≡ None)
-fault_none n None more e = (refl, e)
-fault_none n (Some kind) more e = absurd cc
-
-faults : (s : Scope) (l : Numbered) (ls : List Numbered) → first_fault s (l ∷ ls) ≡ None → (line_fault s l.line ≡ None) × (first_fault (scope_after s l) ls ≡ None)
-faults s l ls e = fault_none l.number (line_fault s l.line) (first_fault (scope_after s l) ls) e
-
 fall_behind : (s : Scope) (n m : ℕ) (l : Line) → n ≤ m → Fall n s.blocks → Fall (m + 1) (scope_behind s m l).blocks
 fall_behind s n m (lines.Matrix name form) le h = fall_below n (m + 1) s.blocks (omega arith) h
 fall_behind s n m (lines.Index name size) le h = fall_below n (m + 1) s.blocks (omega arith) h
@@ -67,14 +59,14 @@ fall_behind s n m (lines.Set array at value) le h = fall_below n (m + 1) s.block
 fall_behind s n m lines.End le h = fall_outer (m + 1) s.blocks (fall_below n (m + 1) s.blocks (omega arith) h)
 
 pub reads_fault : (decls : List Decl) (s : Scope) (n : ℕ) (l : Numbered) (ls : List Numbered) → Reads decls s n (l ∷ ls) → line_fault s l.line ≡ None
-reads_fault decls s n l ls h = (faults s l ls h.fine).0
+reads_fault decls s n l ls h = (fine_first s l ls h.fine).0
 
 pub reads_names : (decls : List Decl) (s : Scope) (n : ℕ) (ls : List Numbered) → Reads decls s n ls → Knows decls s
 reads_names decls s n ls h = knows decls s n ls h.named h.fall
 
 pub reads_next : (decls : List Decl) (s : Scope) (n : ℕ) (l : Numbered) (ls : List Numbered) → Reads decls s n (l ∷ ls) → Reads decls (scope_after s l) (l.number + 1) ls
 reads_next decls s n l ls h = record {
-  fine = (faults s l ls h.fine).1;
+  fine = (fine_first s l ls h.fine).1;
   rise = h.rise.1;
   named = named_behind (array_names decls) s l.number l.line ls h.named;
   fall = fall_behind s n l.number l.line h.rise.0 h.fall;

@@ -64,7 +64,7 @@ told_both : (names : List (List ℕ)) (xs ys : List Known) → AreTold names xs 
 told_both names [] ys h k = k
 told_both names (x ∷ xs) ys h k = (h.0, told_both names xs ys h.1 k)
 
-no_variables_both : (xs ys : List Known) → AreNoVariables xs → AreNoVariables ys → AreNoVariables (xs ++ ys)
+pub no_variables_both : (xs ys : List Known) → AreNoVariables xs → AreNoVariables ys → AreNoVariables (xs ++ ys)
 no_variables_both [] ys h k = k
 no_variables_both (x ∷ xs) ys h k = (h.0, no_variables_both xs ys h.1 k)
 
@@ -177,16 +177,16 @@ variable_stands name line n (Guarded ∷ bs) h e =
     let more = variable_stands name line n bs h e in
     record { is_before = more.is_before; name_is = more.name_is }
 
-abbrev IsNoVariableIf : Option Meaning → Type 0
+abbrev pub IsNoVariableIf : Option Meaning → Type 0
 IsNoVariableIf None = Unit {0}
 IsNoVariableIf (Some m) = IsNoVariable m
 
-none_found : (name : List ℕ) (ks : List Known) → AreNoVariables ks → IsNoVariableIf (found name ks)
+pub none_found : (name : List ℕ) (ks : List Known) → AreNoVariables ks → IsNoVariableIf (found name ks)
 none_found name [] h = tt
 none_found name (k ∷ ks) h =
     elim (bytes_eq name k.name) as (λ (b : Bool). IsNoVariableIf (if b then Some k.meaning else found name ks)) [ true ↦ h.0 | false ↦ none_found name ks h.1 ]
 
-no_variable : (o : Option Meaning) (line : ℕ) → IsNoVariableIf o → o ≡ Some (meanings.Variable line) → ⊥
+pub no_variable : (o : Option Meaning) (line : ℕ) → IsNoVariableIf o → o ≡ Some (meanings.Variable line) → ⊥
 no_variable o line h e = let P : Option Meaning → Type 0 = λ x. IsNoVariableIf x in let f : ⊥ = subst P e h in f
 
 -- a variable is found among the open loops

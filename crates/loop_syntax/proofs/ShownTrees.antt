@@ -92,7 +92,7 @@ data_array uses.Other e = absurd cc
 data_array (uses.Indexes size number) e = absurd cc
 data_array (uses.Holds size number) e = tt
 
-variable_is : (o : Option Meaning) → variable_fault o ≡ None → o ≡ Some (meanings.Variable (loop_line o))
+pub variable_is : (o : Option Meaning) → variable_fault o ≡ None → o ≡ Some (meanings.Variable (loop_line o))
 variable_is None e = absurd cc
 variable_is (Some (meanings.Matrix form parts)) e = absurd cc
 variable_is (Some (meanings.Indexes size number)) e = absurd cc
@@ -110,6 +110,9 @@ fault_in s = fold-NamedAtom (Option NameKind) (Option NameKind) (atom_fault s) (
 
 fault_is : (s : Scope) (x : NamedAtom-F NamedAtom NamedTerm) → fault_in s (roll-NamedAtom x) ≡ None → atom_fault s (map-NamedAtom NamedAtom NamedTerm (Option NameKind) (Option NameKind) (fault_in s) (term_fault s) x) ≡ None
 fault_is s x e = sym (fold-roll-NamedAtom (Option NameKind) (Option NameKind) (atom_fault s) (λ t. t.atom) x) ∙ e
+
+pub fault_of_value : (s : Scope) (x : NamedExpr-F NamedExpr) → value_fault s (roll-NamedExpr x) ≡ None → value_fault_step s (map-NamedExpr NamedExpr (Option NameKind) (value_fault s) x) ≡ None
+fault_of_value s x e = sym (fold-roll-NamedExpr (Option NameKind) (value_fault_step s) x) ∙ e
 
 module _ (decls : List Decl) (s : Scope) (k : Knows decls s) where
   -- from one layer of an atom to what it is and to its text
@@ -188,9 +191,6 @@ module _ (decls : List Decl) (s : Scope) (k : Knows decls s) where
       ∙ ap (λ (f : ℕ → List ℕ). f least) (fold-roll-Expr (ℕ → List ℕ) (expr_step decls s.blocks) y) ∙ e
       ∙ sym (ap (λ (f : ℕ → List ℕ). f least) (fold-roll-NamedExpr (ℕ → List ℕ) shown_value_step x))
 
-  fault_of_value : (x : NamedExpr-F NamedExpr) → value_fault s (roll-NamedExpr x) ≡ None → value_fault_step s (map-NamedExpr NamedExpr (Option NameKind) (value_fault s) x) ≡ None
-  fault_of_value x e = sym (fold-roll-NamedExpr (Option NameKind) (value_fault_step s) x) ∙ e
-
   op_shows : (op : Op) (a b c d : ℕ → List ℕ) (least : ℕ) → ((n : ℕ) → a n ≡ c n) → ((n : ℕ) → b n ≡ d n) → expr_step decls s.blocks (Expr-F.Op op a b) least ≡ shown_value_step (NamedExpr-F.Op op c d) least
   op_shows ops.Add a b c d least e f = rw (e 0, f 1) refl
   op_shows ops.Sub a b c d least e f = rw (e 0, f 1) refl
@@ -200,11 +200,11 @@ module _ (decls : List Decl) (s : Scope) (k : Knows decls s) where
   value_case : (y : NamedExpr-F ShowsValue) → ValueShows (roll-NamedExpr (map-NamedExpr ShowsValue NamedExpr (λ e. e.0) y))
   value_case (NamedExpr-F.Lit z) e least = value_is (NamedExpr-F.Lit z) (Expr-F.Lit z) least (sym (rolled_literal z)) refl
   value_case (NamedExpr-F.Read array at) e least =
-      let both = either_none (data_fault (use_of s array)) (term_fault s at) (fault_of_value (NamedExpr-F.Read array at) e) in
+      let both = either_none (data_fault (use_of s array)) (term_fault s at) (fault_of_value s (NamedExpr-F.Read array at) e) in
       value_is (NamedExpr-F.Read array at) (Expr-F.Read (array_in s array) (term_in s at)) least (sym (rolled_read (array_in s array) (term_in s at)))
       (entry_is array (term_text decls s.blocks (term_in s at)) (shown_term at) (data_array (use_of s array) both.0) (term_shows at both.1))
   value_case (NamedExpr-F.Op op l r) e least =
-      let both = either_none (value_fault s l.0) (value_fault s r.0) (fault_of_value (NamedExpr-F.Op op l.0 r.0) e) in
+      let both = either_none (value_fault s l.0) (value_fault s r.0) (fault_of_value s (NamedExpr-F.Op op l.0 r.0) e) in
       value_is (NamedExpr-F.Op op l.0 r.0) (Expr-F.Op op (value_in s l.0) (value_in s r.0)) least (sym (rolled_op op (value_in s l.0) (value_in s r.0)))
       (op_shows op (expr_text decls s.blocks (value_in s l.0)) (expr_text decls s.blocks (value_in s r.0)) (shown_value l.0) (shown_value r.0) least (l.1 both.0) (r.1 both.1))
 

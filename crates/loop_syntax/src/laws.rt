@@ -2,6 +2,7 @@
 ghost use Rattle.std.specs.Prelude.{◌≡◌, ℕ, List};
 ghost use Rattle.text_base.specs.Lines.{lines};
 ghost use Rattle.loop_core.specs.declared.nest.Nest.{Nest};
+ghost use Rattle.loop_core.specs.IsNest.{IsNest};
 ghost use Rattle.loop_syntax.specs.declared.numbered.Numbered.{Numbered};
 ghost use Rattle.loop_syntax.specs.Numbered.{numbered};
 ghost use Rattle.loop_syntax.specs.PrintText.{nest_text};
@@ -25,4 +26,10 @@ pub fn printed_text_is_that_of_its_lines()
 /// lines with words of the text that the nest was read from.
 pub fn printed_text_reads_back()
     ensures { (ls : List (List ℕ)) (nest : Nest) → IsRead ls nest → AreShort (lines (nest_text nest)) → IsRead (lines (nest_text nest)) (renumbered (place (numbered ls)) nest) }
+{}
+
+/// What was read is a nest that the loop language can say, the number and the length of its lines
+/// aside.
+pub fn what_is_read_is_a_nest()
+    ensures { (ls : List (List ℕ)) (nest : Nest) → IsRead ls nest → IsNest nest }
 {}
