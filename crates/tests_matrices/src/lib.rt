@@ -1,0 +1,2 @@
+//! Tests of the readers of Matrix Market texts and of compressed arrays.
+#![tactic(auto)]

@@ -1,0 +1,2 @@
+//! Tests of the words of the command line and of files, streams and gates.
+#![tactic(auto)]

@@ -1,0 +1,2 @@
+//! Tests of constraints, rules, certificates and closures.
+#![tactic(auto)]

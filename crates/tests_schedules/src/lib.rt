@@ -1,0 +1,2 @@
+//! Tests of predecessors, levels, tasks, waits and whole schedules.
+#![tactic(auto)]
