@@ -15,10 +15,10 @@ use loop_core::arrays::Arrays;
 use loop_core::decl::{Decl, DeclKind, Form};
 use loop_core::nest::Nest;
 use loop_core::values::Values;
-use loop_core::words::Words;
 use mtx_read::triples::Triples;
 use std::alloc::Global;
 use wave_base::types::Memory;
+use wave_base::words::Words;
 
 /// The index arrays and the data arrays of a nest.
 #[derive(Drop)]

@@ -2,9 +2,9 @@
 ghost use Rattle.std.specs.Prelude.{◌≡◌, [], ◌∷◌, reverse};
 ghost use Rattle.array_bind.specs.Lists.{first_file, other_files};
 
-use loop_core::words::Words;
 use std::alloc::Global;
 use std::marker::Model;
+use wave_base::words::Words;
 
 /// The words of files, the last one at the front of the memory; contracts see the first one first.
 #[derive(Drop)]

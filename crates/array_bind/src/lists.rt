@@ -8,9 +8,9 @@ use crate::shape::size_length;
 use csr_arrays::compressed::Compressed;
 use csr_arrays::numbers::Numbers;
 use loop_core::decl::{DeclKind, Size, Source};
-use loop_core::words::Words;
 use std::alloc::Global;
 use wave_base::types::Memory;
+use wave_base::words::Words;
 
 /// The index arrays and the data arrays so far, each with a list for each array number.
 #[derive(Drop)]

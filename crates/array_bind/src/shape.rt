@@ -5,9 +5,9 @@ ghost use Rattle.array_bind.specs.declared.shape.ShapeRefusal.TheVariants.{Memor
 ghost use Rattle.array_bind.specs.Shape.{file_size, before, file_sizes, length_fault};
 
 use loop_core::decl::{Decl, DeclKind, Size, Source};
-use loop_core::words::Words;
 use std::alloc::{AllocError, AllocFailed, Global};
 use wave_base::types::Memory;
+use wave_base::words::Words;
 
 /// Why a matrix and files don't fit a nest, or that memory ran out. Files count from 0.
 #[derive(Clone, Copy, Debug, PartialEq, Eq)]

@@ -7,7 +7,6 @@ use loop_core::arrays::Arrays;
 use loop_core::decl::{Decl, DeclKind, Form, Size, Source, size_of};
 use loop_core::name::Name;
 use loop_core::nest::Nest;
-use loop_core::words::Words;
 use mtx_read::matrix::read_matrix;
 use sqlite_items::Items;
 use std::alloc::Global;
@@ -17,6 +16,7 @@ use std::sync::ledger::{Blank, Ledger};
 use std::test::Fail;
 use wave_base::steps::Steps;
 use wave_base::types::ArrayId;
+use wave_base::words::Words;
 
 const VECTOR: DeclKind = DeclKind::Vector(Size::N, Source::File);
 

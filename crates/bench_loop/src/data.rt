@@ -3,10 +3,10 @@ use loop_core::arrays::Arrays;
 use loop_core::name::Name;
 use loop_core::nest::{Atom, Expr, Item, Nest, Op, Side, Term, VarId};
 use loop_core::values::Values;
-use loop_core::words::Words;
 use sqlite_items::{Boxed, Items};
 use std::alloc::Global;
 use wave_base::types::{ArrayId, Memory};
+use wave_base::words::Words;
 
 const PTR: ArrayId = ArrayId(0);
 

@@ -3,11 +3,11 @@ use crate::plain_meaning::means;
 use loop_core::arrays::Arrays;
 use loop_core::decl::PropKind;
 use loop_core::nest::{Atom, Term};
-use loop_core::words::Words;
 use std::alloc::Global;
 use std::process::Abort;
 use std::test::Fail;
 use wave_base::types::ArrayId;
+use wave_base::words::Words;
 
 // The arrays 0, 1 and 2 in the order of the property's line.
 const FIRST: ArrayId = ArrayId(0);

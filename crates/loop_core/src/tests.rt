@@ -5,11 +5,11 @@ use crate::equal::same_term;
 use crate::name::Name;
 use crate::nest::{Atom, Expr, Item, Nest, Op, Rel, Side, Term, VarId};
 use crate::values::Values;
-use crate::words::Words;
 use sqlite_items::{Boxed, Items};
 use std::alloc::Global;
 use std::test::Fail;
 use wave_base::types::{ArrayId, Cell};
+use wave_base::words::Words;
 
 fn name(text: &[u8]) -> Result<Name, Fail> {
     Ok(Name::of(text).ok_or("a name is too long")?)

@@ -2,11 +2,11 @@
 use Part::{Apply, At, Begin, For, Lit, N, Nnz, Num, Plus, Read, Set, Var, When};
 use loop_core::name::Name;
 use loop_core::nest::{Atom, Expr, Item, Nest, Op, Rel, Side, Term, VarId};
-use loop_core::words::Words;
 use sqlite_items::{Boxed, Items};
 use std::alloc::Global;
 use std::test::Fail;
 use wave_base::types::ArrayId;
+use wave_base::words::Words;
 
 // A nest is written as its parts in order, each after the parts that it takes.
 #[derive(Clone, Copy)]

@@ -6,11 +6,11 @@ use loop_core::arrays::Arrays;
 use loop_core::depth::has_depth_within;
 use loop_core::nest::{Op, Rel};
 use loop_core::values::Values;
-use loop_core::words::Words;
 use std::alloc::Global;
 use std::process::Abort;
 use std::test::Fail;
 use wave_base::types::{ArrayId, Cell};
+use wave_base::words::Words;
 
 fn places(alloc: Global) -> Result<Vec<Words>, Fail> {
     let mut lists = Vec::new(alloc);

@@ -9,7 +9,6 @@ use crate::system::Diff;
 use crate::truth::holds;
 use loop_core::arrays::Arrays;
 use loop_core::nest::{Atom, Term};
-use loop_core::words::Words;
 use sqlite_items::Boxed;
 use std::alloc::Global;
 use std::marker::Brand;
@@ -17,6 +16,7 @@ use std::sync::ledger::{Blank, Ledger};
 use std::test::Fail;
 use wave_base::steps::Steps;
 use wave_base::types::{ArrayId, Memory};
+use wave_base::words::Words;
 
 // f[atom + 1]
 fn entry(alloc: Global, array: u8, atom: Atom) -> Result<Atom, Memory>

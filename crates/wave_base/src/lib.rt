@@ -1,6 +1,7 @@
-//! Words of 64 bits, rows, array numbers, cells, want of memory, and a counter of steps.
+//! Words of 64 bits and lists of them, rows, array numbers, cells, out of memory, and a counter of steps.
 #![tactic(auto)]
 
 pub mod steps;
 pub mod types;
 pub mod w64;
+pub mod words;

@@ -18,7 +18,7 @@ pub struct Cell {
     pub at: u32,
 }
 
-/// Want of memory: a growth was refused.
+/// Out of memory: a growth was refused.
 #[derive(Clone, Copy, Debug, PartialEq, Eq)]
 pub struct Memory;
 

@@ -10,9 +10,9 @@ use crate::status::{ShapeKind, Status};
 use array_bind::bind::{Bound, bind};
 use array_bind::shape::ShapeRefusal;
 use loop_core::nest::Nest;
-use loop_core::words::Words;
 use mtx_read::triples::Triples;
 use std::alloc::Global;
+use wave_base::words::Words;
 
 /// File k is named by word k + 4.
 fn shape_status(refusal: ShapeRefusal) -> Status

@@ -6,12 +6,12 @@ ghost use Rattle.wave_main.specs.Files.{IsFetched, AreFetched};
 ghost use Rattle.wave_main.specs.Matrices.{matrix_status, fault_of, matrix_fault, vectors_fault, matrix_of, ok_or, vectors_of};
 
 use crate::status::{MtxFault, Status};
-use loop_core::words::Words;
 use mtx_read::matrix::read_matrix;
 use mtx_read::refusal::{BigKind, MtxRefusal};
 use mtx_read::triples::Triples;
 use mtx_read::vector::read_vector;
 use std::alloc::Global;
+use wave_base::words::Words;
 
 fn matrix_status(word: u32, refusal: MtxRefusal) -> Status
     ensures { result ≡ matrix_status word refusal }
