@@ -2,7 +2,7 @@ use Rattle.std.proofs.Common.{List, sym, subst}
 use Rattle.std.specs.List.{Contains}
 use Rattle.wave_base.specs.declared.types.Cell.{Cell}
 use Rattle.loop_meaning.proofs.Touched.{cells_of, cells_in}
-use Rattle.loop_meaning.proofs.touches.touched.Goals as goal
+use Rattle.loop_meaning.proofs.places.touched.Goals as goal
 
 pub returns-clause-cells : goal.returns-clause-cells
 returns-clause-cells c =

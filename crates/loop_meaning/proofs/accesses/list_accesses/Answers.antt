@@ -3,11 +3,11 @@ use Rattle.std.specs.List.{flat_map}
 use Rattle.loop_core.specs.declared.place.Place.{Place}
 use Rattle.loop_core.specs.Instances.{Instance, instances}
 use Rattle.loop_core.specs.Touches.{reads}
-use Rattle.loop_meaning.specs.declared.touches.Accesses.{Accesses}
+use Rattle.loop_meaning.specs.declared.accesses.Accesses.{Accesses}
 use Rattle.loop_meaning.specs.Accesses.{target_of}
 use Rattle.loop_meaning.proofs.Walks.{admits_all}
 use Rattle.loop_meaning.proofs.Touched.{listed_reads, listed_targets}
-use Rattle.loop_meaning.proofs.touches.list_accesses.Goals as goal
+use Rattle.loop_meaning.proofs.accesses.list_accesses.Goals as goal
 
 abbrev lists : Accesses → Instance → Accesses → Type 0
 lists x s y = (y.reads.items ≡ x.reads.items ++ reads s.value) × (y.writes.items ≡ x.writes.items ++ target_of s ∷ [])

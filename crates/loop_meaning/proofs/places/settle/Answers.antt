@@ -2,7 +2,7 @@ use Rattle.std.proofs.lemmas.List.Filters.{dedup_is}
 use Rattle.std.proofs.lemmas.List.Kept.{Contains-dedup, Contains-from_dedup, IsStrictlySortedBy-dedup}
 use Rattle.std.proofs.lemmas.List.Sorted.{Contains-permutation, IsPermutation-sym}
 use Rattle.loop_meaning.proofs.Order.{ascending, cell_total, cell_ties, cell_equiv, cell_exact}
-use Rattle.loop_meaning.proofs.touches.settle.Goals as goal
+use Rattle.loop_meaning.proofs.places.settle.Goals as goal
 
 pub returns-clause-ascends : goal.returns-clause-ascends
 returns-clause-ascends c =
