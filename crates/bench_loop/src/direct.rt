@@ -11,7 +11,7 @@ use loop_core::env::Env;
 use loop_core::nest::{Item, Nest, Side, VarId};
 use loop_core::terms::eval;
 use loop_core::values::Values;
-use loop_meaning::exprs::{relate, value};
+use loop_meaning::exprs::{is_met, value};
 use std::marker::Brand;
 use std::sync::ledger::{Blank, Ledger};
 use wave_base::steps::Steps;
@@ -93,9 +93,7 @@ fn run_item<L: Ledger>(
             right,
             body,
         } => {
-            let left = eval(left, env, arrays, steps);
-            let right = eval(right, env, arrays, steps);
-            if relate(*rel, left, right) {
+            if is_met(*rel, left, right, env, arrays, steps) {
                 run_body(body.as_slice(), env, arrays, values, steps);
             }
         }

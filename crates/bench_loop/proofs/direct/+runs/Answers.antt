@@ -9,7 +9,9 @@ use Rattle.loop_core.specs.Terms.{AreBounded, IsWithin}
 use Rattle.loop_core.specs.Depth.{depth, body_depth}
 use Rattle.loop_core.specs.Instances.{item_instances, body_instances, turns, trips, bound}
 use Rattle.loop_core.specs.Sequence.{after_all}
-use Rattle.bench_loop.proofs.Runs.{depth_within, body_step, turn_step, between, bound_bounded}
+use Rattle.loop_core.proofs.Depths.{depth_within}
+use Rattle.loop_core.proofs.Within.{bound_bounded}
+use Rattle.bench_loop.proofs.Runs.{body_step, turn_step, between}
 use Rattle.bench_loop.proofs.direct.+runs.Goals as goal
 
 pub run_body-run_item-requires : goal.run_body-run_item-requires
