@@ -13,7 +13,7 @@ use Rattle.wave_levels.specs.Levels.{above, level_at, rows_at, AreLevels}
 use Rattle.wave_levels.proofs.Above.{above-at}
 use Rattle.wave_levels.proofs.RowsAt.{rows_at-members, rows_at-ascending}
 use Rattle.sched_types.specs.declared.sched.RowTask.{RowTask}
-use Rattle.sched_types.specs.Order.{Place, IsAt}
+use Rattle.sched_types.specs.Order.{Spot, IsAt}
 use Rattle.super_tasks.specs.Shares.{worker_at, share, task_of, worker_tasks, groups}
 use Rattle.super_tasks.proofs.Division.{worker_at-below}
 use Rattle.wait_sparsify.specs.Depends.{Depends, StandsIn, ArePlaced, AreLevelled}
@@ -100,7 +100,7 @@ module _ (graph : List (List RowId)) (levels : List ℕ) (workers : ℕ) (are : 
   passes w l s = eqb (worker_at workers (length (rows_at levels l)) s) w
 
   -- the task of a place is one of its worker's
-  at_worker : (p : Place) (t : RowTask) → IsAt (groups levels workers) p t → (p.worker < workers) × (slice_get (from (rows_for p.worker) 0 (above levels)) p.at ≡ Some t)
+  at_worker : (p : Spot) (t : RowTask) → IsAt (groups levels workers) p t → (p.worker < workers) × (slice_get (from (rows_for p.worker) 0 (above levels)) p.at ≡ Some t)
   at_worker p t h =
       elim (cases_lt p.worker workers) as (λ _. (p.worker < workers) × (slice_get (from (rows_for p.worker) 0 (above levels)) p.at ≡ Some t)) [
         | inl l ↦
@@ -118,15 +118,15 @@ module _ (graph : List (List RowId)) (levels : List ℕ) (workers : ℕ) (are : 
       ap (λ (ts : List RowTask). slice_get ts at) e ∙ h
 
   -- what is known of a row of a task
-  record Known (p : Place) (t : RowTask) (r : RowId) : Type 0 where
+  record Known (p : Spot) (t : RowTask) (r : RowId) : Type 0 where
     within : r.0 < length levels
     level : level_at levels r ≡ t.level
-    spot : ℕ
-    spot_in : spot < length (rows_at levels t.level)
-    spot_is : get_or (rows_at levels t.level) spot r ≡ r
-    worker : worker_at workers (length (rows_at levels t.level)) spot ≡ p.worker
+    place : ℕ
+    place_in : place < length (rows_at levels t.level)
+    place_is : get_or (rows_at levels t.level) place r ≡ r
+    worker : worker_at workers (length (rows_at levels t.level)) place ≡ p.worker
 
-  known : (p : Place) (t : RowTask) (r : RowId) → IsAt (groups levels workers) p t → In r t.rows → Known p t r
+  known : (p : Spot) (t : RowTask) (r : RowId) → IsAt (groups levels workers) p t → In r t.rows → Known p t r
   known p t r h i =
       let a = at_worker p t h in
       let l = level_of (rows_for p.worker) 0 (above levels) p.at t a.1 in
@@ -136,19 +136,19 @@ module _ (graph : List (List RowId)) (levels : List ℕ) (workers : ℕ) (are : 
       record {
         within = m.0;
         level = m.1;
-        spot = k.0;
-        spot_in = k.1;
-        spot_is = k.2;
+        place = k.0;
+        place_in = k.1;
+        place_is = k.2;
         worker = ap (worker_at workers (length (rows_at levels t.level))) z ∙ eqb-true (worker_at workers (length (rows_at levels t.level)) (0 + k.0)) p.worker k.3;
       }
 
   in_rows : (rows : List RowId) (at : ℕ) (r : RowId) → slice_get rows at ≡ Some r → In r rows
   in_rows rows at r h = In-from rows r (at, slice_get_within rows at r h, get_or_from_slice_get rows at r r h)
 
-  rows_alone : (r : RowId) (p : Place) (at : ℕ) → StandsIn (groups levels workers) r p at → r.0 < length graph
+  rows_alone : (r : RowId) (p : Spot) (at : ℕ) → StandsIn (groups levels workers) r p at → r.0 < length graph
   rows_alone r p at s = let k = known p s.0 r s.1 (in_rows s.0.rows at r s.2) in omega (arith, k.within, are.0)
 
-  stands : (r : RowId) → r.0 < length graph → (p : Place) × (at : ℕ) × StandsIn (groups levels workers) r p at
+  stands : (r : RowId) → r.0 < length graph → (p : Spot) × (at : ℕ) × StandsIn (groups levels workers) r p at
   stands r h =
       let n : r.0 < length levels = omega (arith, h, are.0) in
       let l = level_at levels r in
@@ -164,7 +164,7 @@ module _ (graph : List (List RowId)) (levels : List ℕ) (workers : ℕ) (are : 
       let e : slice_get (rows_for w l) d.0 ≡ Some r = slice_get_read (rows_for w l) (length (rows_for w l)) d.0 r refl d.1 (sym d.2) in
       (record { worker = w; at = t.0 }, d.0, (task l (rows_for w l), worker_at-place w t.0 (task l (rows_for w l)) wl t.1, e))
 
-  same_level : (p q : Place) (t u : RowTask) → IsAt (groups levels workers) p t → IsAt (groups levels workers) q u → p.worker ≡ q.worker → t.level ≡ u.level → p.at ≡ q.at
+  same_level : (p q : Spot) (t u : RowTask) → IsAt (groups levels workers) p t → IsAt (groups levels workers) q u → p.worker ≡ q.worker → t.level ≡ u.level → p.at ≡ q.at
   same_level p q t u h k e l =
       let a = (at_worker p t h).1 in
       let b = (at_worker q u k).1 in
@@ -175,36 +175,36 @@ module _ (graph : List (List RowId)) (levels : List ℕ) (workers : ℕ) (are : 
         | inr (inr gt) ↦ absurd (omega (arith, l, rises (rows_for q.worker) 0 (above levels) q.at p.at u t gt b a'))
       ]
 
-  task_ascends : (p : Place) (t : RowTask) → IsAt (groups levels workers) p t → AreAscending t.rows
+  task_ascends : (p : Spot) (t : RowTask) → IsAt (groups levels workers) p t → AreAscending t.rows
   task_ascends p t h =
       let l = level_of (rows_for p.worker) 0 (above levels) p.at t (at_worker p t h).1 in
       let rows = rows_at levels t.level in
       let c = climbing-kept (passes p.worker t.level) 0 0 rows (climbing_from 0 rows (λ d h. omega arith) (rows_at-ascending levels t.level)) in
       ascending_from 0 t.rows (subst (Climbing 0) (sym l.2) c)
 
-  once : (r : RowId) (p q : Place) (at spot : ℕ) → StandsIn (groups levels workers) r p at → StandsIn (groups levels workers) r q spot → (p ≡ q) × (at ≡ spot)
-  once r p q at spot x y =
+  once : (r : RowId) (p q : Spot) (at other_at : ℕ) → StandsIn (groups levels workers) r p at → StandsIn (groups levels workers) r q other_at → (p ≡ q) × (at ≡ other_at)
+  once r p q at other_at x y =
       let t = x.0 in
       let u = y.0 in
       let a = known p t r x.1 (in_rows t.rows at r x.2) in
-      let b = known q u r y.1 (in_rows u.rows spot r y.2) in
+      let b = known q u r y.1 (in_rows u.rows other_at r y.2) in
       let l : t.level ≡ u.level = sym a.level ∙ b.level in
       let rows = rows_at levels u.level in
-      let a_in = subst (λ (n : ℕ). a.spot < length (rows_at levels n)) l a.spot_in in
-      let a_is = subst (λ (n : ℕ). get_or (rows_at levels n) a.spot r ≡ r) l a.spot_is in
-      let a_worker = subst (λ (n : ℕ). worker_at workers (length (rows_at levels n)) a.spot ≡ p.worker) l a.worker in
-      let s = one_place rows (rows_at-ascending levels u.level) a.spot b.spot r a_in b.spot_in a_is b.spot_is in
+      let a_in = subst (λ (n : ℕ). a.place < length (rows_at levels n)) l a.place_in in
+      let a_is = subst (λ (n : ℕ). get_or (rows_at levels n) a.place r ≡ r) l a.place_is in
+      let a_worker = subst (λ (n : ℕ). worker_at workers (length (rows_at levels n)) a.place ≡ p.worker) l a.worker in
+      let s = one_place rows (rows_at-ascending levels u.level) a.place b.place r a_in b.place_in a_is b.place_is in
       let w : p.worker ≡ q.worker = sym a_worker ∙ ap (worker_at workers (length rows)) s ∙ b.worker in
       let m = same_level p q t u x.1 y.1 w l in
       let e : p ≡ q = λ k. record { worker = w k; at = m k } in
-      let same = same_task (groups levels workers) q t u (subst (λ (p : Place). IsAt (groups levels workers) p t) e x.1) y.1 in
+      let same = same_task (groups levels workers) q t u (subst (λ (p : Spot). IsAt (groups levels workers) p t) e x.1) y.1 in
       let x2 : slice_get u.rows at ≡ Some r = subst (λ (t : RowTask). slice_get t.rows at ≡ Some r) same x.2 in
-      (e, one_place u.rows (task_ascends q u y.1) at spot r (slice_get_within u.rows at r x2) (slice_get_within u.rows spot r y.2) (get_or_from_slice_get u.rows at r r x2) (get_or_from_slice_get u.rows spot r r y.2))
+      (e, one_place u.rows (task_ascends q u y.1) at other_at r (slice_get_within u.rows at r x2) (slice_get_within u.rows other_at r y.2) (get_or_from_slice_get u.rows at r r x2) (get_or_from_slice_get u.rows other_at r r y.2))
 
   pub are_placed : ArePlaced (length graph) (groups levels workers)
   are_placed = record { rows_alone = rows_alone; stands = stands; once = once }
 
-  lower : (i j : RowId) → Depends graph i j → (p q : Place) (u t : RowTask) → IsAt (groups levels workers) p u → IsAt (groups levels workers) q t → Contains u.rows i → Contains t.rows j → u.level < t.level
+  lower : (i j : RowId) → Depends graph i j → (p q : Spot) (u t : RowTask) → IsAt (groups levels workers) p u → IsAt (groups levels workers) q t → Contains u.rows i → Contains t.rows j → u.level < t.level
   lower i j dep p q u t hu ht iu jt =
       let a = known p u i hu (In-from u.rows i iu) in
       let b = known q t j ht (In-from t.rows j jt) in

@@ -9,7 +9,7 @@ use Rattle.row_graph.specs.Turned.{turned}
 use Rattle.row_graph.proofs.Members.{In, In-from, In-to, In-map, In-map_to, In-append, In-turned, In-turned_to}
 use Rattle.row_graph.proofs.Ascending.{Climbing}
 use Rattle.sched_types.specs.declared.sched.RowTask.{RowTask}
-use Rattle.sched_types.specs.Order.{Place}
+use Rattle.sched_types.specs.Order.{Spot}
 use Rattle.sched_types.specs.Kept.{IsCross}
 use Rattle.wait_sparsify.specs.Depends.{Depends, CountsCross}
 use Rattle.wait_sparsify.specs.Numbered.{owners_from, places_from}
@@ -74,10 +74,10 @@ length-turned first (rows ∷ lists) =
 
 module _ (graph : List (List RowId)) (lists : List (List RowTask)) (cross : List (List RowId)) (s : Setting graph lists cross) where
   -- the place of a number
-  abbrev place_of : ℕ → Place
+  abbrev place_of : ℕ → Spot
   place_of k = place (get_or (owners_from 0 lists) k 0) (get_or (places_from lists) k 0)
 
-  place_num : (p : Place) → Has lists p.worker p.at → place_of (num lists p) ≡ p
+  place_num : (p : Spot) → Has lists p.worker p.at → place_of (num lists p) ≡ p
   place_num p h =
       let z : 0 + p.worker ≡ p.worker = omega arith in
       let e1 = owner_at 0 lists p.worker p.at h ∙ z in
@@ -88,14 +88,14 @@ module _ (graph : List (List RowId)) (lists : List (List RowTask)) (cross : List
   numbers : (k : ℕ) → k < length cross → Has lists (place_of k).worker (place_of k).at × (num lists (place_of k) ≡ k)
   numbers k h =
       let w = has_place lists k (omega (arith, h, s.made.each_row)) in
-      let p : Place = place w.0 w.1 in
+      let p : Spot = place w.0 w.1 in
       let e : p ≡ place_of k = sym (place_num p w.2) ∙ ap place_of w.3 in
-      (subst (λ (p : Place). Has lists p.worker p.at) e w.2, ap (num lists) (sym e) ∙ w.3)
+      (subst (λ (p : Spot). Has lists p.worker p.at) e w.2, ap (num lists) (sym e) ∙ w.3)
 
   abbrev entries : List (ℕ × RowId)
   entries = turned 0 cross
 
-  abbrev f : ℕ × RowId → Place × Place
+  abbrev f : ℕ × RowId → Spot × Spot
   f e = (place_of e.0, place_of e.1.0)
 
   -- an entry is two numbers of which the first is before the second
@@ -114,11 +114,11 @@ module _ (graph : List (List RowId)) (lists : List (List RowTask)) (cross : List
       let b0 = numbers b.0 (is.members b.1.0 (row b.0) hb) in
       let a1 = numbers a.1.0 (listed cross a.1.0 (row a.0) ha) in
       let b1 = numbers b.1.0 (listed cross b.1.0 (row b.0) hb) in
-      let e0 : a.0 ≡ b.0 = sym a0.1 ∙ ap (λ (q : Place × Place). num lists q.0) e ∙ b0.1 in
-      let e1 : a.1.0 ≡ b.1.0 = sym a1.1 ∙ ap (λ (q : Place × Place). num lists q.1) e ∙ b1.1 in
+      let e0 : a.0 ≡ b.0 = sym a0.1 ∙ ap (λ (q : Spot × Spot). num lists q.0) e ∙ b0.1 in
+      let e1 : a.1.0 ≡ b.1.0 = sym a1.1 ∙ ap (λ (q : Spot × Spot). num lists q.1) e ∙ b1.1 in
       λ x. (e0 x, row (e1 x))
 
-  listed_cross : (p q : Place) → Contains (map f entries) (p, q) → IsCross (Depends graph) lists p q
+  listed_cross : (p q : Spot) → Contains (map f entries) (p, q) → IsCross (Depends graph) lists p q
   listed_cross p q c =
       let m = In-map f entries (p, q) (In-from (map f entries) (p, q) c) in
       let e = m.0 in
@@ -126,9 +126,9 @@ module _ (graph : List (List RowId)) (lists : List (List RowTask)) (cross : List
       let a = numbers e.0 ((is_list graph lists cross s).members e.1.0 (row e.0) h) in
       let b = numbers e.1.0 (listed cross e.1.0 (row e.0) h) in
       let h' : In (row (num lists (place_of e.0))) (get_or cross (num lists (place_of e.1.0)) []) = subst (λ (k : ℕ). In (row k) (get_or cross (num lists (place_of e.1.0)) [])) (sym a.1) (subst (λ (l : ℕ). In (row e.0) (get_or cross l [])) (sym b.1) h) in
-      subst (λ (w : Place × Place). IsCross (Depends graph) lists w.0 w.1) m.1 (cross_place graph lists cross s (place_of e.0) (place_of e.1.0) a.0 b.0 h')
+      subst (λ (w : Spot × Spot). IsCross (Depends graph) lists w.0 w.1) m.1 (cross_place graph lists cross s (place_of e.0) (place_of e.1.0) a.0 b.0 h')
 
-  cross_listed : (p q : Place) → IsCross (Depends graph) lists p q → Contains (map f entries) (p, q)
+  cross_listed : (p q : Spot) → IsCross (Depends graph) lists p q → Contains (map f entries) (p, q)
   cross_listed p q w =
       let i = place_cross graph lists cross s p q w in
       let t = In-turned_to 0 cross (num lists p) (num lists q) i in
@@ -137,7 +137,7 @@ module _ (graph : List (List RowId)) (lists : List (List RowTask)) (cross : List
       let e0 = place_num p (has-from lists p w.1 w.3) in
       let e1 = ap place_of z ∙ place_num q (has-from lists q w.2 w.4) in
       let e : f (num lists p, row (0 + num lists q)) ≡ (p, q) = λ x. (e0 x, e1 x) in
-      In-to (map f entries) (p, q) (subst (λ (w : Place × Place). In w (map f entries)) e g)
+      In-to (map f entries) (p, q) (subst (λ (w : Spot × Spot). In w (map f entries)) e g)
 
   pub counts_cross : CountsCross (Depends graph) lists (sum_by length cross)
   counts_cross = record {

@@ -7,7 +7,7 @@ use Rattle.wave_base.specs.declared.types.RowId.{RowId}
 use Rattle.row_graph.specs.Predecessors.{before}
 use Rattle.row_graph.proofs.Members.{In, In-from, In-to}
 use Rattle.sched_types.specs.declared.sched.RowTask.{RowTask}
-use Rattle.sched_types.specs.Order.{Place, IsAt, tasks_of}
+use Rattle.sched_types.specs.Order.{Spot, IsAt, tasks_of}
 use Rattle.sched_types.specs.Kept.{IsCross, IsEarlier, Plus}
 use Rattle.wait_sparsify.specs.Depends.{Depends}
 use Rattle.wait_sparsify.proofs.Stamping.{In-cases}
@@ -40,14 +40,14 @@ any P d (x ∷ rows) =
     ]
 
 -- the task of a place, or none
-find : (lists : List (List RowTask)) (p : Place) → ((t : RowTask) × IsAt lists p t) ⊎ (slice_get (get_or lists p.worker []) p.at ≡ None)
+find : (lists : List (List RowTask)) (p : Spot) → ((t : RowTask) × IsAt lists p t) ⊎ (slice_get (get_or lists p.worker []) p.at ≡ None)
 find lists p =
     elim (slice_get_cases (get_or lists p.worker []) p.at).1 as (λ _. ((t : RowTask) × IsAt lists p t) ⊎ (slice_get (get_or lists p.worker []) p.at ≡ None)) [
       | inl w ↦ inl (w.0, w.2)
       | inr w ↦ inr w.1
     ]
 
-pub same_task : {X : Type 0} (lists : List (List X)) (p : Place) (a b : X) → IsAt lists p a → IsAt lists p b → a ≡ b
+pub same_task : {X : Type 0} (lists : List (List X)) (p : Spot) (a b : X) → IsAt lists p a → IsAt lists p b → a ≡ b
 same_task lists p a b h i = same_Some a b (sym h ∙ i)
 
 module _ (graph : List (List RowId)) (lists : List (List RowTask)) where
@@ -62,10 +62,10 @@ module _ (graph : List (List RowId)) (lists : List (List RowTask)) where
         | inr nw ↦ inr (λ w. nw w.0 w.1 w.2)
       ]) t.rows
 
-  absent : (p : Place) (t : RowTask) → slice_get (get_or lists p.worker []) p.at ≡ None → IsAt lists p t → ⊥
+  absent : (p : Spot) (t : RowTask) → slice_get (get_or lists p.worker []) p.at ≡ None → IsAt lists p t → ⊥
   absent p t e h = none-some t (sym e ∙ h)
 
-  cross_tasks : (p q : Place) (u t : RowTask) → (p.worker ≡ q.worker → ⊥) → IsAt lists p u → IsAt lists q t → Decided (IsCross (Depends graph) lists p q)
+  cross_tasks : (p q : Spot) (u t : RowTask) → (p.worker ≡ q.worker → ⊥) → IsAt lists p u → IsAt lists q t → Decided (IsCross (Depends graph) lists p q)
   cross_tasks p q u t ne hu ht =
       elim (joined u t) as (λ _. Decided (IsCross (Depends graph) lists p q)) [
         | inl w ↦
@@ -80,7 +80,7 @@ module _ (graph : List (List RowId)) (lists : List (List RowTask)) where
             nw j b (i, a, In-from (before graph j.0) i c.9))
       ]
 
-  cross_decided : (p q : Place) → Decided (IsCross (Depends graph) lists p q)
+  cross_decided : (p q : Spot) → Decided (IsCross (Depends graph) lists p q)
   cross_decided p q =
       elim (cases_eq p.worker q.worker) as (λ _. Decided (IsCross (Depends graph) lists p q)) [
         | inl e ↦ inr (λ c. c.0 e)
@@ -93,7 +93,7 @@ module _ (graph : List (List RowId)) (lists : List (List RowTask)) where
         ]
       ]
 
-  earlier_decided : (p q : Place) → Decided (IsEarlier lists p q)
+  earlier_decided : (p q : Spot) → Decided (IsEarlier lists p q)
   earlier_decided p q =
       elim (cases_eq p.worker q.worker) as (λ _. Decided (IsEarlier lists p q)) [
         | inr ne ↦ inr (λ w. ne w.0)
@@ -106,7 +106,7 @@ module _ (graph : List (List RowId)) (lists : List (List RowTask)) where
         ]
       ]
 
-  plus_decided : (p q : Place) → Decided (Plus (Depends graph) lists p q)
+  plus_decided : (p q : Spot) → Decided (Plus (Depends graph) lists p q)
   plus_decided p q =
       elim (cross_decided p q) as (λ _. Decided (Plus (Depends graph) lists p q)) [
         | inl c ↦ inl (inl c)
@@ -117,10 +117,10 @@ module _ (graph : List (List RowId)) (lists : List (List RowTask)) where
       ]
 
   -- a task of a place is between two others
-  abbrev pub Between : Place → Place → Place → Type 0
+  abbrev pub Between : Spot → Spot → Spot → Type 0
   Between p q v = Plus (Depends graph) lists p v × Plus (Depends graph) lists v q
 
-  between_decided : (p q v : Place) → Decided (Between p q v)
+  between_decided : (p q v : Spot) → Decided (Between p q v)
   between_decided p q v =
       elim (plus_decided p v) as (λ _. Decided (Between p q v)) [
         | inr na ↦ inr (λ w. na w.0)
@@ -130,14 +130,14 @@ module _ (graph : List (List RowId)) (lists : List (List RowTask)) where
         ]
       ]
 
-  on_worker : (p q : Place) (w : ℕ) → Decided ((at : ℕ) × (at < length (tasks_of lists w)) × Between p q (place w at))
+  on_worker : (p q : Spot) (w : ℕ) → Decided ((at : ℕ) × (at < length (tasks_of lists w)) × Between p q (place w at))
   on_worker p q w =
       elim (below (length (tasks_of lists w)) (λ (at : ℕ). Between p q (place w at)) (λ at. between_decided p q (place w at))) as (λ _. Decided ((at : ℕ) × (at < length (tasks_of lists w)) × Between p q (place w at))) [
         | inl a ↦ inl a
         | inr na ↦ inr (λ a. na a.0 a.1 a.2)
       ]
 
-  pub plus_within : (p q : Place) → Plus (Depends graph) lists p q → q.at < length (tasks_of lists q.worker)
+  pub plus_within : (p q : Spot) → Plus (Depends graph) lists p q → q.at < length (tasks_of lists q.worker)
   plus_within p q (inl c) = has-from lists q c.2 c.4
   plus_within p q (inr e) = e.2
 
@@ -146,9 +146,9 @@ module _ (graph : List (List RowId)) (lists : List (List RowTask)) where
   some_worker zero at (l ∷ ls) h = omega arith
   some_worker (suc w) at (l ∷ ls) h = let r = some_worker w at ls h in omega (arith, r)
 
-  pub decide_between : (p q : Place) → ((v : Place) × Between p q v) ⊎ ((v : Place) → Plus (Depends graph) lists p v → Plus (Depends graph) lists v q → ⊥)
+  pub decide_between : (p q : Spot) → ((v : Spot) × Between p q v) ⊎ ((v : Spot) → Plus (Depends graph) lists p v → Plus (Depends graph) lists v q → ⊥)
   decide_between p q =
-      elim (below (length lists) (λ (w : ℕ). (at : ℕ) × (at < length (tasks_of lists w)) × Between p q (place w at)) (on_worker p q)) as (λ _. ((v : Place) × Between p q v) ⊎ ((v : Place) → Plus (Depends graph) lists p v → Plus (Depends graph) lists v q → ⊥)) [
+      elim (below (length lists) (λ (w : ℕ). (at : ℕ) × (at < length (tasks_of lists w)) × Between p q (place w at)) (on_worker p q)) as (λ _. ((v : Spot) × Between p q v) ⊎ ((v : Spot) → Plus (Depends graph) lists p v → Plus (Depends graph) lists v q → ⊥)) [
         | inl w ↦ inl (place w.0 w.2.0, w.2.2)
         | inr nw ↦ inr (λ v a b.
             let h = plus_within p v a in

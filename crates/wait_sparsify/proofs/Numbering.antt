@@ -104,23 +104,23 @@ number_is (tasks ∷ lists) zero at = omega arith
 number_is (tasks ∷ lists) (suc worker) at = omega (arith, number_is lists worker at)
 
 -- those of a later worker are greater
-pub number_rises : (lists : List (List RowTask)) (worker other at spot : ℕ) → Has lists worker at → worker < other → number lists worker at < number lists other spot
-number_rises [] worker other at spot h l = absurd (omega (arith, h))
-number_rises (tasks ∷ lists) worker zero at spot h l = absurd (omega (arith, l))
-number_rises (tasks ∷ lists) zero (suc other) at spot h l = omega (arith, h)
-number_rises (tasks ∷ lists) (suc worker) (suc other) at spot h l =
-    omega (arith, number_rises lists worker other at spot h (omega (arith, l)))
+pub number_rises : (lists : List (List RowTask)) (worker other at other_at : ℕ) → Has lists worker at → worker < other → number lists worker at < number lists other other_at
+number_rises [] worker other at other_at h l = absurd (omega (arith, h))
+number_rises (tasks ∷ lists) worker zero at other_at h l = absurd (omega (arith, l))
+number_rises (tasks ∷ lists) zero (suc other) at other_at h l = omega (arith, h)
+number_rises (tasks ∷ lists) (suc worker) (suc other) at other_at h l =
+    omega (arith, number_rises lists worker other at other_at h (omega (arith, l)))
 
-pub number_apart : (lists : List (List RowTask)) (worker other at spot : ℕ) → Has lists worker at → Has lists other spot → number lists worker at ≡ number lists other spot → (worker ≡ other) × (at ≡ spot)
-number_apart lists worker other at spot h i e =
-    elim (cases_order worker other) as (λ _. (worker ≡ other) × (at ≡ spot)) [
+pub number_apart : (lists : List (List RowTask)) (worker other at other_at : ℕ) → Has lists worker at → Has lists other other_at → number lists worker at ≡ number lists other other_at → (worker ≡ other) × (at ≡ other_at)
+number_apart lists worker other at other_at h i e =
+    elim (cases_order worker other) as (λ _. (worker ≡ other) × (at ≡ other_at)) [
       | inl q ↦
           let a = number_is lists worker at in
-          let b = number_is lists other spot in
+          let b = number_is lists other other_at in
           let c : number lists worker 0 ≡ number lists other 0 = ap (λ w. number lists w 0) q in
           (q, omega (arith, a, b, c, e))
-      | inr (inl l) ↦ absurd (omega (arith, number_rises lists worker other at spot h l, e))
-      | inr (inr g) ↦ absurd (omega (arith, number_rises lists other worker spot at i g, e))
+      | inr (inl l) ↦ absurd (omega (arith, number_rises lists worker other at other_at h l, e))
+      | inr (inr g) ↦ absurd (omega (arith, number_rises lists other worker other_at at i g, e))
     ]
 
 -- workers don't fall along the numbers

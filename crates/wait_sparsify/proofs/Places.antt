@@ -8,7 +8,7 @@ use Rattle.wave_base.specs.declared.types.RowId.{RowId}
 use Rattle.row_graph.specs.Rows.{row}
 use Rattle.row_graph.proofs.Members.{In, In-from, In-to}
 use Rattle.sched_types.specs.declared.sched.RowTask.{RowTask}
-use Rattle.sched_types.specs.Order.{Place, IsAt}
+use Rattle.sched_types.specs.Order.{Spot, IsAt}
 use Rattle.wait_sparsify.specs.Depends.{ArePlaced}
 use Rattle.wait_sparsify.specs.Numbered.{rows_from}
 use Rattle.wait_sparsify.specs.Written.{written_lists}
@@ -16,21 +16,21 @@ use Rattle.wait_sparsify.proofs.Numbering.{Has, number, rows_at_number, has_plac
 use Rattle.wait_sparsify.proofs.TaskOf.{AreApart, task_of_row}
 
 -- the number of the task at a place
-abbrev pub num : List (List RowTask) → Place → ℕ
+abbrev pub num : List (List RowTask) → Spot → ℕ
 num lists p = number lists p.worker p.at
 
-abbrev pub place : ℕ → ℕ → Place
+abbrev pub place : ℕ → ℕ → Spot
 place worker at = record { worker = worker; at = at }
 
-pub has-from : {X : Type 0} (lists : List (List X)) (p : Place) (t : X) → IsAt lists p t → p.at < length (get_or lists p.worker [])
+pub has-from : {X : Type 0} (lists : List (List X)) (p : Spot) (t : X) → IsAt lists p t → p.at < length (get_or lists p.worker [])
 has-from lists p t h = slice_get_within (get_or lists p.worker []) p.at t h
 
-pub at-from : (lists : List (List RowTask)) (p : Place) → Has lists p.worker p.at → (t : RowTask) × IsAt lists p t
+pub at-from : (lists : List (List RowTask)) (p : Spot) → Has lists p.worker p.at → (t : RowTask) × IsAt lists p t
 at-from lists p h =
     let d : RowTask = record { level = 0; rows = [] } in
     (get_or (get_or lists p.worker []) p.at d, slice_get-get_or (get_or lists p.worker []) p.at d h)
 
-pub rows_of-at : (lists : List (List RowTask)) (p : Place) (t : RowTask) → IsAt lists p t → get_or (rows_from lists) (num lists p) [] ≡ t.rows
+pub rows_of-at : (lists : List (List RowTask)) (p : Spot) (t : RowTask) → IsAt lists p t → get_or (rows_from lists) (num lists p) [] ≡ t.rows
 rows_of-at lists p t h =
     rows_at_number lists p.worker p.at t (has-from lists p t h) ∙ ap (λ (t : RowTask). t.rows) (get_or_from_slice_get (get_or lists p.worker []) p.at t t h)
 
@@ -44,7 +44,7 @@ listed lists k r h =
 
 -- the places of a number's rows
 pub record StandsAt (lists : List (List RowTask)) (a : ℕ) (r : RowId) : Type 0 where
-  pub p : Place
+  pub p : Spot
   pub at : ℕ
   pub task : RowTask
   pub is_at : IsAt lists p task
@@ -54,7 +54,7 @@ pub record StandsAt (lists : List (List RowTask)) (a : ℕ) (r : RowId) : Type 0
 pub stands_at : (lists : List (List RowTask)) (a : ℕ) (r : RowId) → In r (get_or (rows_from lists) a []) → StandsAt lists a r
 stands_at lists a r h =
     let w = has_place lists a (listed (rows_from lists) a r h) in
-    let p : Place = place w.0 w.1 in
+    let p : Spot = place w.0 w.1 in
     let t = at-from lists p w.2 in
     let e : get_or (rows_from lists) a [] ≡ t.0.rows = ap (λ k. get_or (rows_from lists) k []) (sym w.3) ∙ rows_of-at lists p t.0 t.1 in
     let c = In-to t.0.rows r (subst (λ (rows : List RowId). In r rows) e h) in

@@ -9,7 +9,7 @@ use Rattle.row_graph.proofs.Members.{In, In-from, In-to, In-map, In-map_to}
 use Rattle.row_graph.proofs.Ascending.{ascending_from}
 use Rattle.sched_types.specs.declared.lists.Wait.{Wait}
 use Rattle.sched_types.specs.declared.sched.RowTask.{RowTask}
-use Rattle.sched_types.specs.Order.{Place}
+use Rattle.sched_types.specs.Order.{Spot}
 use Rattle.sched_types.specs.Kept.{IsCross, Plus, IsKept, AreKeptWaits}
 use Rattle.wait_sparsify.specs.Depends.{Depends, ArePlaced}
 use Rattle.wait_sparsify.specs.Numbered.{owners_from, places_from, rows_from}
@@ -123,10 +123,10 @@ module _ (graph : List (List RowId)) (lists : List (List RowTask)) (cross : List
     apart = λ l u h. (cross_num u.0 l h).differ;
   }
 
-  owner_of : (p : Place) → Has lists p.worker p.at → own_of (num lists p) ≡ p.worker
+  owner_of : (p : Spot) → Has lists p.worker p.at → own_of (num lists p) ≡ p.worker
   owner_of p h = let z : 0 + p.worker ≡ p.worker = omega arith in owner_at 0 lists p.worker p.at h ∙ z
 
-  pub cross_place : (p q : Place) → Has lists p.worker p.at → Has lists q.worker q.at → In (row (num lists p)) (get_or cross (num lists q) []) → IsCross (Depends graph) lists p q
+  pub cross_place : (p q : Spot) → Has lists p.worker p.at → Has lists q.worker q.at → In (row (num lists p)) (get_or cross (num lists q) []) → IsCross (Depends graph) lists p q
   cross_place p q hp hq h =
       let c = cross_num (num lists p) (num lists q) h in
       let u = at-from lists p hp in
@@ -136,7 +136,7 @@ module _ (graph : List (List RowId)) (lists : List (List RowTask)) (cross : List
       let ne : p.worker ≡ q.worker → ⊥ = λ e. c.differ (owner_of p hp ∙ e ∙ sym (owner_of q hq)) in
       (ne, u.0, t.0, u.1, t.1, c.i, c.j, In-to u.0.rows c.i i_in, In-to t.0.rows c.j j_in, In-to (before graph c.j.0) c.i c.dep)
 
-  pub place_cross : (p q : Place) → IsCross (Depends graph) lists p q → In (row (num lists p)) (get_or cross (num lists q) [])
+  pub place_cross : (p q : Spot) → IsCross (Depends graph) lists p q → In (row (num lists p)) (get_or cross (num lists q) [])
   place_cross p q w =
       let u = w.1 in
       let t = w.2 in
@@ -153,24 +153,24 @@ module _ (graph : List (List RowId)) (lists : List (List RowTask)) (cross : List
         differ = λ e. w.0 (sym (owner_of p hp) ∙ e ∙ owner_of q hq);
       })
 
-  pub next_place : (p q : Place) → Has lists p.worker p.at → Has lists q.worker q.at → Next cross (owners_from 0 lists) (num lists p) (num lists q) → Plus (Depends graph) lists p q
+  pub next_place : (p q : Spot) → Has lists p.worker p.at → Has lists q.worker q.at → Next cross (owners_from 0 lists) (num lists p) (num lists q) → Plus (Depends graph) lists p q
   next_place p q hp hq (inl c) = inl (cross_place p q hp hq c)
   next_place p q hp hq (inr d) =
       let w : p.worker ≡ q.worker = sym (owner_of p hp) ∙ d.0 ∙ owner_of q hq in
       let b : number lists p.worker 0 ≡ number lists q.worker 0 = ap (λ w. number lists w 0) w in
       inr (w, omega (arith, number_is lists p.worker p.at, number_is lists q.worker q.at, b, d.1), hq)
 
-  pub place_next : (p q : Place) → Has lists p.worker p.at → Has lists q.worker q.at → Plus (Depends graph) lists p q → Next cross (owners_from 0 lists) (num lists p) (num lists q)
+  pub place_next : (p q : Spot) → Has lists p.worker p.at → Has lists q.worker q.at → Plus (Depends graph) lists p q → Next cross (owners_from 0 lists) (num lists p) (num lists q)
   place_next p q hp hq (inl c) = inl (place_cross p q c)
   place_next p q hp hq (inr d) =
       let b : number lists p.worker 0 ≡ number lists q.worker 0 = ap (λ w. number lists w 0) d.0 in
       inr (owner_of p hp ∙ d.0 ∙ sym (owner_of q hq), omega (arith, number_is lists p.worker p.at, number_is lists q.worker q.at, b, d.1), omega (arith, number_below lists q.worker q.at hq, s.made.each_row))
 
-  pub plus_second : (p q : Place) → Plus (Depends graph) lists p q → Has lists q.worker q.at
+  pub plus_second : (p q : Spot) → Plus (Depends graph) lists p q → Has lists q.worker q.at
   plus_second p q (inl w) = has-from lists q w.2 w.4
   plus_second p q (inr d) = d.2
 
-  pub place_keeps : (p q : Place) → IsKept (Depends graph) lists p q → Keeps cross (owners_from 0 lists) (num lists p) (num lists q)
+  pub place_keeps : (p q : Spot) → IsKept (Depends graph) lists p q → Keeps cross (owners_from 0 lists) (num lists p) (num lists q)
   place_keeps p q k =
       let hp = has-from lists p k.0.1 k.0.3 in
       let hq = has-from lists q k.0.2 k.0.4 in (
@@ -178,13 +178,13 @@ module _ (graph : List (List RowId)) (lists : List (List RowTask)) (cross : List
         λ m x y.
             let l : m < length cross = elim x as (λ _. m < length cross) [ inl c ↦ listed cross m (row (num lists p)) c | inr d ↦ d.2 ] in
             let w = has_place lists m (omega (arith, l, s.made.each_row)) in
-            let r : Place = place w.0 w.1 in
+            let r : Spot = place w.0 w.1 in
             let x' = subst (λ (m : ℕ). Next cross (owners_from 0 lists) (num lists p) m) (sym w.3) x in
             let y' = subst (λ (m : ℕ). Next cross (owners_from 0 lists) m (num lists q)) (sym w.3) y in
             k.1 r (next_place p r hp w.2 x') (next_place r q w.2 hq y'),
       )
 
-  pub keeps_place : (p q : Place) → Has lists p.worker p.at → Has lists q.worker q.at → Keeps cross (owners_from 0 lists) (num lists p) (num lists q) → IsKept (Depends graph) lists p q
+  pub keeps_place : (p q : Spot) → Has lists p.worker p.at → Has lists q.worker q.at → Keeps cross (owners_from 0 lists) (num lists p) (num lists q) → IsKept (Depends graph) lists p q
   keeps_place p q hp hq k = (
     cross_place p q hp hq k.0,
     λ r x y.
@@ -192,7 +192,7 @@ module _ (graph : List (List RowId)) (lists : List (List RowTask)) (cross : List
         k.1 (num lists r) (place_next p r hp hr x) (place_next r q hr hq y),
   )
 
-  module _ (q : Place) (hq : Has lists q.worker q.at) (ks : List RowId) (kept : AreKeptAt cross (owners_from 0 lists) (num lists q) ks) where
+  module _ (q : Spot) (hq : Has lists q.worker q.at) (ks : List RowId) (kept : AreKeptAt cross (owners_from 0 lists) (num lists q) ks) where
     abbrev f : RowId → Wait
     f u = wait_for (owners_from 0 lists) (places_from lists) u
 
@@ -219,7 +219,7 @@ module _ (graph : List (List RowId)) (lists : List (List RowTask)) (cross : List
         let e : get_or (places_from lists) m.0.0 0 + 1 ≡ wait.count = ap (λ (w : Wait). w.count) m.1 in
         omega (arith, e)
 
-    wait_kept : (first : Place) → Contains (map f ks) (record { worker = first.worker; count = first.at + 1 }) → IsKept (Depends graph) lists first q
+    wait_kept : (first : Spot) → Contains (map f ks) (record { worker = first.worker; count = first.at + 1 }) → IsKept (Depends graph) lists first q
     wait_kept first c =
         let m = In-map f ks (record { worker = first.worker; count = first.at + 1 }) (In-from (map f ks) (record { worker = first.worker; count = first.at + 1 }) c) in
         let u = m.0 in
@@ -228,14 +228,14 @@ module _ (graph : List (List RowId)) (lists : List (List RowTask)) (cross : List
         let k = (kept.0 u.0).0 m.2 in
         let top = is_list.members (num lists q) u k.0 in
         let w = has_place lists u.0 (omega (arith, top, s.made.each_row)) in
-        let r : Place = place w.0 w.1 in
+        let r : Spot = place w.0 w.1 in
         let e1 : w.0 ≡ first.worker = sym (owner_of r w.2) ∙ ap own_of w.3 ∙ ew in
         let e3 : w.1 ≡ get_or (places_from lists) u.0 0 = sym (place_at lists w.0 w.1 w.2) ∙ ap (λ k. get_or (places_from lists) k 0) w.3 in
         let e2 : w.1 ≡ first.at = omega (arith, e3, ec) in
         let e : r ≡ first = λ x. record { worker = e1 x; at = e2 x } in
-        subst (λ (p : Place). IsKept (Depends graph) lists p q) e (keeps_place r q w.2 hq (subst (λ (u : ℕ). Keeps cross (owners_from 0 lists) u (num lists q)) (sym w.3) k))
+        subst (λ (p : Spot). IsKept (Depends graph) lists p q) e (keeps_place r q w.2 hq (subst (λ (u : ℕ). Keeps cross (owners_from 0 lists) u (num lists q)) (sym w.3) k))
 
-    kept_wait : (first : Place) → IsKept (Depends graph) lists first q → Contains (map f ks) (record { worker = first.worker; count = first.at + 1 })
+    kept_wait : (first : Spot) → IsKept (Depends graph) lists first q → Contains (map f ks) (record { worker = first.worker; count = first.at + 1 })
     kept_wait first k =
         let hp = has-from lists first k.0.1 k.0.3 in
         let i = (kept.0 (num lists first)).1 (place_keeps first q k) in
