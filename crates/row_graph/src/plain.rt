@@ -48,3 +48,15 @@ fn has_pair(pairs: &[(RowId, RowId)], first: RowId, second: RowId) -> bool
     }
     false
 }
+
+/// Whether a row is in a list, by a look at each of its rows.
+pub fn is_listed(rows: &[RowId], row: RowId) -> bool
+    ensures { IsTrue result ↔ Contains rows.now row }
+{
+    for other in rows {
+        if other.0 == row.0 {
+            return true;
+        }
+    }
+    false
+}

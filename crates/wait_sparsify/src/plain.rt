@@ -11,6 +11,7 @@ ghost use Rattle.wait_sparsify.specs.Searched.{AreSelected, AreSelectedLists, Cr
 use crate::attached::attach;
 use crate::numbered::{rows_of_each, seats_of, small};
 use row_graph::lists::Lists;
+use row_graph::plain::is_listed;
 use row_graph::preds::Preds;
 use sched_types::sched::{Sched, Tasks};
 use std::alloc::Global;
@@ -115,18 +116,6 @@ fn some_before(before: &[RowId], rows: &[RowId]) -> bool
 {
     for row in rows {
         if is_listed(before, *row) {
-            return true;
-        }
-    }
-    false
-}
-
-// Whether a row is in a list.
-fn is_listed(rows: &[RowId], row: RowId) -> bool
-    ensures { IsTrue result ↔ Contains rows.now row }
-{
-    for other in rows {
-        if other.0 == row.0 {
             return true;
         }
     }

@@ -1,11 +1,13 @@
 -- The levels while rows are taken in order.
 use Rattle.std.proofs.Common.{◌≡◌, ℕ, ◌+◌, ◌<◌, ◌≤◌, ◌∙◌, ◌++◌, inl, inr, List, [], ◌∷◌, All, length, get_or, map, arith, refl, ap, sym, subst}
 use Rattle.std.proofs.lemmas.Bool.{cases_lt}
-use Rattle.std.proofs.lemmas.List.{get_or_append_left, get_or_push, length_push}
+use Rattle.std.proofs.lemmas.List.{get_or_append_left, get_or_push, length_push, length-map, get_or-map}
 use Rattle.std.proofs.lemmas.List.Elements.{All-head, All-tail}
 use Rattle.wave_base.specs.declared.types.RowId.{RowId}
+use Rattle.row_graph.specs.Rows.{row_zero}
 use Rattle.row_graph.specs.Predecessors.{before, IsGraph}
 use Rattle.wave_levels.specs.Levels.{above, level_at}
+use Rattle.wave_levels.proofs.Above.{above-le}
 
 -- the first rows have their levels, none of which is above its row
 pub record LevelsSoFar (graph : List (List RowId)) (rows : ℕ) (levels : List ℕ) : Type 0 where
@@ -13,6 +15,17 @@ pub record LevelsSoFar (graph : List (List RowId)) (rows : ℕ) (levels : List �
   pub many : length levels ≡ rows
   pub level_is : (k : ℕ) → k < rows → get_or levels k 0 ≡ above (map (level_at levels) (before graph k))
   pub low : (k : ℕ) → k < rows → get_or levels k 0 ≤ k
+
+-- the next row's number is above the levels of all rows before it
+pub row_above : (graph : List (List RowId)) (rows : ℕ) (levels : List ℕ) → LevelsSoFar graph rows levels → above (map (level_at levels) (before graph rows)) ≤ rows
+row_above graph rows levels s =
+    let ps : List RowId = before graph rows in
+    above-le (map (level_at levels) ps) rows (λ k l.
+    let n : k < length ps = omega (arith, length-map ps (level_at levels), l) in
+    let e = get_or-map (level_at levels) ps k row_zero 0 n in
+    let x : (get_or ps k row_zero).0 < rows = s.graph_is.1 rows k row_zero n in
+    let low = s.low (get_or ps k row_zero).0 x in
+    omega (arith, e, x, low))
 
 -- one more level changes none of the rows before
 map-same : (levels : List ℕ) (level : ℕ) (rows : List RowId) → All (λ (r : RowId). r.0 < length levels) rows → map (level_at (levels ++ level ∷ [])) rows ≡ map (level_at levels) rows

@@ -69,7 +69,7 @@ impl Levels {
 }
 
 // The number of levels.
-pub(crate) fn count_of(levels: &[u32]) -> u32
+fn count_of(levels: &[u32]) -> u32
     requires low { (k : ℕ) → k < length levels.now → slice_index levels.now k ≤ k }
     requires fits { length levels.now < 2 ^ 32 }
     ensures { result ≡ above levels.now }

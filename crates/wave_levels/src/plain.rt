@@ -1,30 +1,84 @@
-// The plain way to the rows of each level and to the chain: rows are looked for among all rows. It says
-// what the quick way has to give, in a body that needs no buckets.
-ghost use Rattle.std.specs.Prelude.{◌≡◌, ℕ, ◌+◌, ◌<◌, ◌≤◌, ◌^◌, ◌↔◌, Contains, length, slice_index, IfOk, IsTrue};
+// The plain way to the levels, to the rows of each level and to the chain: numbers are tried one after
+// another, and rows are looked for among all rows. It says what the quick way has to give, in a body
+// that needs no buckets and no greatest number.
+ghost use Rattle.std.specs.Prelude.{◌≡◌, ℕ, ◌+◌, ◌<◌, ◌≤◌, ◌^◌, ◌↔◌, All, Contains, length, map, slice_index, IfOk, IsTrue};
 ghost use Rattle.wave_base.specs.declared.types.RowId.{RowId};
-ghost use Rattle.row_graph.specs.Predecessors.{before};
+ghost use Rattle.row_graph.specs.Predecessors.{IsGraph, before};
 ghost use Rattle.wave_levels.specs.Chains.{IsLeastChain, IsLongest};
 ghost use Rattle.wave_levels.specs.Levels.{AreLevels, above, level_at, rows_at};
 
-use crate::each::level_of_each;
-use crate::grouped::{Levels, count_of};
+use crate::grouped::Levels;
 use row_graph::lists::Lists;
+use row_graph::plain::is_listed;
 use row_graph::preds::Preds;
 use std::alloc::Global;
 use wave_base::types::{Memory, RowId};
 
-/// The level of each row, as `levels` gives it, with the rows of each level by a search.
+/// The level of each row and the rows of each level, as `levels` gives them, by a search.
 pub fn levels_by_search(alloc: Global, preds: &Preds) -> Result<Levels, Memory>
     ensures levels { IfOk result (λ levels. AreLevels preds.now levels) }
     ensures longest { IfOk result (λ levels. (j : RowId) → j.0 < length preds.now
         → IsLongest preds.now j (level_at levels j)) }
 {
-    let levels = level_of_each(alloc, preds)?;
+    let levels = levels_by_trial(alloc, preds)?;
     let mut rows = Lists::none(alloc)?;
-    for level in 0..count_of(levels.as_slice()) {
+    for level in 0..first_above(levels.as_slice(), preds.rows()) {
         rows = rows.with_list(rows_of(alloc, levels.as_slice(), level)?.as_slice())?;
     }
     Ok(Levels { levels, rows })
+}
+
+// The level of each row: the first number above the levels of all rows before it. The row's own number
+// is above them too.
+fn levels_by_trial(alloc: Global, preds: &Preds) -> Result<Vec<u32>, Memory>
+    ensures levels { IfOk result (λ levels. AreLevels preds.now levels.items) }
+    ensures low { IfOk result (λ levels. (k : ℕ) → k < length preds.now → slice_index levels.items k ≤ k) }
+    ensures graph { IsGraph preds.now }
+{
+    let rows = preds.rows();
+    let mut levels = Vec::new(alloc);
+    for row in 0..rows {
+        let before = levels_of(alloc, levels.as_slice(), preds.before(RowId(row)))?;
+        levels.push(first_above(before.as_slice(), row))?;
+    }
+    Ok(levels)
+}
+
+// The levels of some rows.
+fn levels_of(alloc: Global, levels: &[u32], rows: &[RowId]) -> Result<Vec<u32>, Memory>
+    requires { All (λ (r : RowId). r.0 < length levels.now) rows.now }
+    ensures { IfOk result (λ some. some.items ≡ map (level_at levels.now) rows.now) }
+{
+    let mut some = Vec::new(alloc);
+    for row in rows {
+        some.push(levels[row.0 as usize])?;
+    }
+    Ok(some)
+}
+
+// The first number above all of some numbers, where `most` is above them.
+fn first_above(numbers: &[u32], most: u32) -> u32
+    requires { above numbers.now ≤ most }
+    ensures { result ≡ above numbers.now }
+{
+    for number in 0..most {
+        if is_above(numbers, number) {
+            return number;
+        }
+    }
+    most
+}
+
+// Whether a number is above all of some numbers.
+fn is_above(numbers: &[u32], number: u32) -> bool
+    ensures { IsTrue result ↔ (above numbers.now ≤ number) }
+{
+    for other in numbers {
+        if *other >= number {
+            return false;
+        }
+    }
+    true
 }
 
 // The rows of one level, ascending.
@@ -122,16 +176,4 @@ fn is_step(preds: &Preds, levels: &Levels, row: RowId, next: RowId, level: u32) 
     ensures { IsTrue result ↔ (Contains (before preds.now next.0) row × (level_at levels.now row ≡ level)) }
 {
     is_listed(preds.before(next), row) && levels.of(row) == level
-}
-
-// Whether a row is in a list.
-fn is_listed(rows: &[RowId], row: RowId) -> bool
-    ensures { IsTrue result ↔ Contains rows.now row }
-{
-    for other in rows {
-        if other.0 == row.0 {
-            return true;
-        }
-    }
-    false
 }
