@@ -2,11 +2,10 @@
 //! prints how long the planning took. SHAPE is `chain`, `grid` or `wide`.
 #![tactic(auto)]
 
-mod graph;
 mod plan;
 
-use crate::graph::{Shape, pairs};
 use crate::plan::plan;
+use schedule_samples::shapes::{Shape, pairs};
 use std::time::Instant;
 use std::{env, io};
 

@@ -3,7 +3,7 @@ ghost use Rattle.std.specs.Prelude.{◌<◌, ◌≤◌, All};
 ghost use Rattle.wave_base.specs.declared.types.RowId.{RowId};
 
 use plan_build::build::build;
-use sched_types::sched::Sched;
+use schedule_samples::counts::tasks_and_waits;
 use std::alloc::Global;
 use wave_base::types::{Memory, RowId};
 
@@ -30,7 +30,7 @@ pub fn plan(
     requires few { workers ≤ 64 }
 {
     let built = build(alloc, rows, pairs, workers)?;
-    let (tasks, waits) = counted(&built.sched);
+    let (tasks, waits) = tasks_and_waits(&built.sched);
     Ok(Counts {
         edges: built.edges,
         levels: built.levels,
@@ -39,17 +39,4 @@ pub fn plan(
         cross: built.cross,
         waits,
     })
-}
-
-// How many tasks and how many waits.
-fn counted(sched: &Sched) -> (usize, usize) {
-    let mut tasks = 0usize;
-    let mut waits = 0usize;
-    for list in sched.workers.as_slice() {
-        tasks = tasks.saturating_add(list.as_slice().len());
-        for task in list.as_slice() {
-            waits = waits.saturating_add(task.waits.as_slice().len());
-        }
-    }
-    (tasks, waits)
 }

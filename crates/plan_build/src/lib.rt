@@ -3,5 +3,3 @@
 
 pub mod build;
 pub mod plain;
-#[cfg(test)]
-mod worked;

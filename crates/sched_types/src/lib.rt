@@ -1,8 +1,6 @@
 //! Schedules: tasks of rows for each worker, with the waits between them.
 #![tactic(auto)]
 
-#[cfg(test)]
-mod copied;
 pub mod lists;
 pub mod sched;
 pub mod shared;

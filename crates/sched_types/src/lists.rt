@@ -92,7 +92,7 @@ impl WaitList {
         }
     }
 
-    /// One wait more, at the end. After want of memory the list is as before.
+    /// One wait more, at the end. When out of memory, the list is as before.
     pub fn push(&mut self, wait: Wait) -> Result<(), Memory>
         ensures ok { OnOk result (self.new ≡ self.old ++ wait ∷ []) }
         ensures err { OnErr result (self.new ≡ self.old) }

@@ -46,7 +46,7 @@ impl RowTaskList {
         }
     }
 
-    /// One task more, at the end. After want of memory the list is as before.
+    /// One task more, at the end. When out of memory, the list is as before.
     pub fn push(&mut self, task: RowTask) -> Result<(), Memory>
         ensures ok { OnOk result (self.new ≡ self.old ++ task ∷ []) }
         ensures err { OnErr result (self.new ≡ self.old) }
@@ -103,7 +103,7 @@ impl TaskList {
         }
     }
 
-    /// One task more, at the end. After want of memory the list is as before.
+    /// One task more, at the end. When out of memory, the list is as before.
     pub fn push(&mut self, task: Task) -> Result<(), Memory>
         ensures ok { OnOk result (self.new ≡ self.old ++ task ∷ []) }
         ensures err { OnErr result (self.new ≡ self.old) }

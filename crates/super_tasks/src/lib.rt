@@ -4,5 +4,3 @@
 pub mod group;
 pub mod plain;
 mod share;
-#[cfg(test)]
-mod worked;

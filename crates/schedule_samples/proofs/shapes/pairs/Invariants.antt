@@ -1,7 +1,7 @@
 use Rattle.std.proofs.Common.{◌<◌, All}
 use Rattle.wave_base.specs.declared.types.RowId.{RowId}
-use Rattle.plan_build.proofs.worked.valid_pairs.Given as goal
+use Rattle.schedule_samples.proofs.shapes.pairs.Given as goal
 
-abbrev pub invariant-loop-first : goal.invariant-loop-first
-invariant-loop-first l =
+abbrev pub invariant-loop-number : goal.invariant-loop-number
+invariant-loop-number l =
     All (λ (p : RowId × RowId). p.0.0 < p.1.0) l.pairs.items × All (λ (p : RowId × RowId). p.1.0 < l.rows) l.pairs.items

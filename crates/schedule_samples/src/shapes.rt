@@ -1,4 +1,4 @@
-// Graphs made from counters.
+// Graphs of many rows, made from counters.
 ghost use Rattle.std.specs.Prelude.{◌<◌, ◌≤◌, ◌^◌, All, IfOk};
 ghost use Rattle.wave_base.specs.declared.types.RowId.{RowId};
 

@@ -1,0 +1,15 @@
+// How much a schedule has.
+use sched_types::sched::Sched;
+
+/// How many tasks and how many waits a schedule has.
+pub fn tasks_and_waits(sched: &Sched) -> (usize, usize) {
+    let mut tasks = 0usize;
+    let mut waits = 0usize;
+    for list in sched.workers.as_slice() {
+        tasks = tasks.saturating_add(list.as_slice().len());
+        for task in list.as_slice() {
+            waits = waits.saturating_add(task.waits.as_slice().len());
+        }
+    }
+    (tasks, waits)
+}

@@ -1,0 +1,116 @@
+// Plans that were worked out by hand, and the quick way against the plain one.
+ghost use Rattle.std.specs.Prelude.{◌<◌, ◌≤◌, All};
+ghost use Rattle.wave_base.specs.declared.types.RowId.{RowId};
+
+use crate::shown::plan_shown;
+use plan_build::build::build;
+use plan_build::plain::build_by_search;
+use schedule_samples::counts::tasks_and_waits;
+use schedule_samples::made::made_pairs;
+use schedule_samples::shapes::{Shape, pairs};
+use schedule_samples::worked::{by_columns, forward_substitution};
+use std::alloc::Global;
+use std::test::Fail;
+use wave_base::types::{Memory, RowId};
+
+pub fn planned(
+    alloc: Global,
+    rows: u32,
+    pairs: Vec<(RowId, RowId)>,
+    workers: u32,
+) -> Result<String, Memory>
+    requires earlier { All (λ (p : RowId × RowId). p.0.0 < p.1.0) pairs.items }
+    requires below { All (λ (p : RowId × RowId). p.1.0 < rows) pairs.items }
+    requires some { 1 ≤ workers }
+    requires few { workers ≤ 64 }
+{
+    let built = build(alloc, rows, pairs, workers)?;
+    plan_shown(alloc, &built)
+}
+
+fn quick(alloc: Global, seed: u32) -> Result<String, Memory> {
+    let pairs = made_pairs(alloc, seed, seed % 23)?;
+    planned(alloc, seed % 23, pairs, 1 + seed % 64)
+}
+
+fn searched(alloc: Global, seed: u32) -> Result<String, Memory> {
+    let pairs = made_pairs(alloc, seed, seed % 23)?;
+    let built = build_by_search(alloc, seed % 23, pairs.as_slice(), 1 + seed % 64)?;
+    plan_shown(alloc, &built)
+}
+
+#[test]
+fn quick_and_plain_ways_agree(rt: HostRuntime) -> Result<(), Fail> {
+    for seed in 0..256u32 {
+        let fast = quick(rt.alloc(), seed)?;
+        let slow = searched(rt.alloc(), seed)?;
+        assert_eq!(rt; fast.as_str(), slow.as_str(), "at {seed}");
+    }
+    Ok(())
+}
+
+#[test]
+fn plan_of_forward_substitution(rt: HostRuntime) -> Result<(), Fail> {
+    let text = planned(rt.alloc(), 6, forward_substitution(rt.alloc())?, 2)?;
+    assert_eq!(rt;
+        text.as_str(),
+        "edges 12 levels 3 cross 6 chain 0 2 4 worker task 0 0 task 1 2 1:1 task 2 4 1:2 worker task 0 1 task 1 3 0:1 task 2 5 0:2"
+    );
+    Ok(())
+}
+
+#[test]
+fn plan_of_substitution_by_columns(rt: HostRuntime) -> Result<(), Fail> {
+    let text = planned(rt.alloc(), 4, by_columns(rt.alloc())?, 2)?;
+    assert_eq!(rt;
+        text.as_str(),
+        "edges 3 levels 3 cross 2 chain 1 2 3 worker task 0 0 task 1 2 1:1 task 2 3 worker task 0 1"
+    );
+    Ok(())
+}
+
+#[test]
+fn no_rows(rt: HostRuntime) -> Result<(), Fail> {
+    let text = planned(rt.alloc(), 0, Vec::new(rt.alloc()), 2)?;
+    assert_eq!(rt;
+        text.as_str(),
+        "edges 0 levels 0 cross 0 chain worker worker"
+    );
+    Ok(())
+}
+
+#[test]
+fn one_row_and_many_workers(rt: HostRuntime) -> Result<(), Fail> {
+    let text = planned(rt.alloc(), 1, Vec::new(rt.alloc()), 64)?;
+    let mut wanted = String::new(rt.alloc());
+    wanted.push_str("edges 0 levels 1 cross 0 chain 0 worker task 0 0")?;
+    for _ in 0..63 {
+        wanted.push_str(" worker")?;
+    }
+    assert_eq!(rt; text.as_str(), wanted.as_str());
+    Ok(())
+}
+
+#[test]
+fn rows_without_pairs(rt: HostRuntime) -> Result<(), Fail> {
+    let text = planned(rt.alloc(), 4, Vec::new(rt.alloc()), 2)?;
+    assert_eq!(rt;
+        text.as_str(),
+        "edges 0 levels 1 cross 0 chain 0 worker task 0 0 1 worker task 0 2 3"
+    );
+    Ok(())
+}
+
+#[test]
+fn a_grid_of_100_by_100(rt: HostRuntime) -> Result<(), Fail> {
+    let pairs = pairs(rt.alloc(), Shape::Grid, 10000, 100)?;
+    let built = build(rt.alloc(), 10000, pairs, 4)?;
+    let (tasks, waits) = tasks_and_waits(&built.sched);
+    assert_eq!(rt; built.edges, 19800);
+    assert_eq!(rt; built.levels, 199);
+    assert_eq!(rt; built.chain.as_slice().len(), 199);
+    assert_eq!(rt; tasks, 784);
+    assert_eq!(rt; built.cross, 588);
+    assert_eq!(rt; waits, 588);
+    Ok(())
+}
