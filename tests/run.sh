@@ -1,13 +1,16 @@
 #!/bin/sh
-# Runs the black-box cases on the built program, and then the examples. A case is a folder of cases/ with
+# Runs the black-box cases on the built program, and then the other scripts of this folder.
+#
+# usage: tests/run.sh [PROGRAM]
+# A case is a folder of cases/ with
 #   words    one word of the command line a line (none where it is empty)
 #   files/   the files that lie where the program runs, if there are any
 #   status   the wanted status
 #   stdout   the wanted standard output, byte for byte
 #   stderr   the wanted standard error, byte for byte
 #   output   a file that standard output goes to instead, if there is one; stdout is then empty
-# The examples are those of examples.sh, counted with the cases. The last line is `N passed, M failed`.
-# A missing program is a failure of every case.
+# The last line is `N passed, M failed, K skipped`. A case is skipped, and says so, where a shell or a
+# module that it needs is missing. A missing program is a failure of every case.
 set -u
 
 here=$(CDPATH='' cd -- "$(dirname -- "$0")" && pwd -P) || exit 1
@@ -21,6 +24,7 @@ mkdir "$scratch" || exit 1
 trap 'rm -rf "$scratch"' EXIT
 passed=0
 failed=0
+skipped=0
 
 # run_case FOLDER: runs the program on the words of the case, in a fresh folder with its files.
 run_case() {
@@ -61,16 +65,33 @@ for folder in "$here"/cases/*/; do
     fi
 done
 
-sh "$here/examples.sh" "$program" >"$scratch/examples"
-sed '$d' "$scratch/examples"
-counts=$(sed -n '$s/^\([0-9]*\) passed, \([0-9]*\) failed$/\1 \2/p' "$scratch/examples")
-if [ -n "$counts" ]; then
-    passed=$((passed + ${counts% *}))
-    failed=$((failed + ${counts#* }))
-else
-    failed=$((failed + 1))
-    echo "examples: examples.sh came to no end"
-fi
+# add COMMAND SCRIPT: runs another script on the program, and adds its counts.
+add() {
+    "$1" "$here/$2" "$program" >"$scratch/other"
+    sed '$d' "$scratch/other"
+    # shellcheck disable=SC2046
+    set -- "$2" $(sed -n '$s/^\([0-9]*\) passed, \([0-9]*\) failed, \([0-9]*\) skipped$/\1 \2 \3/p' "$scratch/other")
+    if [ $# -eq 4 ]; then
+        passed=$((passed + $2))
+        failed=$((failed + $3))
+        skipped=$((skipped + $4))
+    else
+        failed=$((failed + 1))
+        echo "$1 came to no end"
+    fi
+}
 
-echo "$passed passed, $failed failed"
+for script in examples.sh launcher.sh completions.sh; do
+    add sh "$script"
+done
+for script in mistakes.py tools.py pages.py; do
+    if command -v python3 >/dev/null 2>&1; then
+        add python3 "$script"
+    else
+        skipped=$((skipped + 1))
+        echo "$script: skipped, there is no python3"
+    fi
+done
+
+echo "$passed passed, $failed failed, $skipped skipped"
 [ "$failed" -eq 0 ] && [ "$passed" -gt 0 ]

@@ -1,4 +1,4 @@
-# Completion of the words of `wave` for bash: `. docs/wave.bash`, or a copy of it among the completions.
+# Completion of the words of `wave` for bash: `. docs/use/wave.bash`, or a copy of it among the completions.
 
 # Fills COMPREPLY with the files and folders whose names begin with $1.
 _wave_files() {
@@ -17,14 +17,14 @@ _wave() {
     local word=${COMP_WORDS[COMP_CWORD]}
     COMPREPLY=()
     if [ "$COMP_CWORD" -eq 1 ]; then
-        _wave_words "$word" run show demo plan replay check explain --help --version
+        _wave_words "$word" run show demo plan replay check explain help --help --version
         return
     fi
     case ${COMP_WORDS[1]}:$COMP_CWORD in
     demo:2) _wave_words "$word" grid lower ;;
     run:4 | plan:4 | replay:4 | demo:4) _wave_words "$word" 1 ;;
     show:2 | explain:2) _wave_files "$word" ;;
-    show:* | explain:* | demo:* | --*) ;;
+    show:* | explain:* | demo:* | help:* | -*) ;;
     run:* | plan:* | replay:* | check:*) _wave_files "$word" ;;
     esac
 }
