@@ -17,7 +17,7 @@ use Rattle.loop_lines.specs.Reading.{◌>>=◌, Gives, close_at, term_at}
 use Rattle.loop_lines.specs.ExprReading.{all_read, element_at, right_at, factor_at, product_at, factors_at, sum_at, products_at}
 use Rattle.loop_lines.proofs.TermLaws.{Wrote, bind_some, some_is, close_sound, term_sound, term_again, height}
 
--- an expression that was read grows by what stands behind it
+-- an expression that was read grows by what stands after it
 pub record Grows {W : Type 0} (write : W → List Token) (mean : W → NamedExpr) (before ts : List Token) (x : NamedExpr × List Token) : Type 0 where
   pub written : W
   pub tokens : before ++ ts ≡ write written ++ x.1

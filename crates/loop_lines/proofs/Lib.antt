@@ -1,3 +1,4 @@
+pub mod Bools
 pub mod TermLaws
 pub mod ExprLaws
 pub mod WordLaws

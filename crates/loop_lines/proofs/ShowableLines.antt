@@ -22,7 +22,7 @@ use Rattle.loop_lines.specs.Exprs.{Factor, Product, Sum, factor, product, sum, f
 use Rattle.loop_lines.specs.Reading.{with_atom}
 use Rattle.loop_lines.specs.Lines.{Bound, bound, WrittenLine, line, line_of}
 use Rattle.loop_lines.specs.Showable.{is_array, is_shift, showable_atom_step, showable_term_step, is_showable_term, showable_value_step, is_showable_value, bound_step, bound_term_step, is_showable_bound, IsShowable}
-use Rattle.loop_lines.proofs.ShownTexts.{and_both}
+use Rattle.loop_lines.proofs.Bools.{and_both}
 use Rattle.loop_lines.proofs.ShownTerms.{zero_atom, rows_atom, stored_atom, named_atom, entry_atom, is_showable_atom, is_bound_atom}
 use Rattle.loop_lines.proofs.ShownValues.{rolled_op, rolled_literal, rolled_read}
 use Rattle.loop_lines.proofs.ShowableWords.{ShowableToken}

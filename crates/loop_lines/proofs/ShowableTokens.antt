@@ -10,7 +10,8 @@ use Rattle.loop_lines.specs.Plain.{is_plain}
 use Rattle.loop_lines.specs.Words.{word_token, dotted}
 use Rattle.loop_lines.specs.Tokens.{Mark, Blank, Point, Equals, Angle, Sign, Stray, Piece, Run, One, sign, signed, mark, onto_run, pieces, before, before_word, tokens_of, line_tokens}
 use Rattle.loop_lines.specs.ReadBack.{is_inner, IsInner}
-use Rattle.loop_lines.proofs.ShownTexts.{known, and_both}
+use Rattle.loop_lines.proofs.Bools.{and_both}
+use Rattle.loop_lines.proofs.ShownTexts.{known}
 use Rattle.loop_lines.proofs.ShowableWords.{ShowableToken, IfToken, word_showable, dotted_showable}
 
 abbrev pub ShowableTokens : List Token → Type 0

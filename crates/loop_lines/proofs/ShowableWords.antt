@@ -15,7 +15,8 @@ use Rattle.loop_lines.specs.Plain.{is_plain}
 use Rattle.loop_lines.specs.Reading.{◌>>=◌, or_else}
 use Rattle.loop_lines.specs.Words.{declaring, relating, nesting, unused, lookup, either, keyword, number, digits_token, name_form, letters_token, word_token, as_name, dotted}
 use Rattle.loop_lines.specs.Showable.{is_part}
-use Rattle.loop_lines.proofs.ShownTexts.{known, and_parts, and_both}
+use Rattle.loop_lines.proofs.Bools.{and_parts, and_both}
+use Rattle.loop_lines.proofs.ShownTexts.{known}
 use Rattle.loop_lines.proofs.ShownWords.{words_of, sizes, reserved_parts}
 
 abbrev pub ShowableToken : Token → Type 0

@@ -20,7 +20,8 @@ use Rattle.loop_lines.specs.Showable.{IsShowable}
 use Rattle.loop_lines.specs.ReadBack.{is_inner, IsInner, AreBlanks, ReadsBack}
 use Rattle.loop_lines.proofs.TokenLaws.{blanks_are}
 use Rattle.loop_lines.proofs.LineLaws.{line_sound, line_again}
-use Rattle.loop_lines.proofs.ShownTexts.{and_parts, and_both, shows_line}
+use Rattle.loop_lines.proofs.Bools.{and_parts, and_both}
+use Rattle.loop_lines.proofs.ShownTexts.{shows_line}
 use Rattle.loop_lines.proofs.ShownLines.{LineOf, written_of}
 use Rattle.loop_lines.proofs.ShowableTokens.{line_showable, line_inner}
 use Rattle.loop_lines.proofs.ShowableLines.{written_fits}

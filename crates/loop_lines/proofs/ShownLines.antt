@@ -27,7 +27,8 @@ use Rattle.loop_lines.specs.Exprs.{sum, sum_of}
 use Rattle.loop_lines.specs.Lines.{WrittenLine, bound, form, size, source, rel, by_pair, line, line_of}
 use Rattle.loop_lines.specs.Shown.{shown_array, shown_entry, shown_term, shown_form, shown_size, shown_source, shown_rel, shown_prop, shown_line}
 use Rattle.loop_lines.specs.Showable.{is_array, is_showable_term, is_showable_bound, is_showable_value, is_showable_prop, is_showable, IsShowable}
-use Rattle.loop_lines.proofs.ShownTexts.{and_parts, behind_none, Shows, Closed, Sign, closed_after, ◌▸◌, ◌◂◌, ◌◇◌, word}
+use Rattle.loop_lines.proofs.Bools.{and_parts}
+use Rattle.loop_lines.proofs.ShownTexts.{behind_none, Shows, Closed, Sign, closed_after, ◌▸◌, ◌◂◌, ◌◇◌, word}
 use Rattle.loop_lines.proofs.ShownWords.{name_shows, array_shows, plus_sign}
 use Rattle.loop_lines.proofs.ShownTerms.{entry_shows, term_of, bound_of}
 use Rattle.loop_lines.proofs.ShownValues.{value_of}
@@ -72,7 +73,7 @@ source_shows : (c : Source) → Shows (shown_source c) (source c ∷ [])
 source_shows File = word (codes "file") (tokens.Word keys.File) refl (omega arith) refl
 source_shows Zeros = word (codes "zero") (tokens.Word keys.Zero) refl (omega arith) refl
 
--- a word behind a blank
+-- a word after a blank
 behind_blank : (a w : List ℕ) (xs : List Token) (t : Token) → Shows a xs → Shows w (t ∷ []) → Shows (a ++ (codes " " ++ w)) (xs ++ t ∷ [])
 behind_blank a w xs t h k =
     let all : Shows ((a ++ codes " ") ++ w) ((xs ++ []) ++ t ∷ []) = (h ◂ blank) ▸ k in

@@ -20,7 +20,8 @@ use Rattle.loop_lines.specs.Reading.{with_atom}
 use Rattle.loop_lines.specs.Lines.{Bound, bound}
 use Rattle.loop_lines.specs.Shown.{shown_number, shown_offset, shown_entry, shown_atom_step, shown_term_step, shown_term}
 use Rattle.loop_lines.specs.Showable.{is_array, is_shift, showable_atom_step, showable_term_step, is_showable_term, bound_step, bound_term_step, is_showable_bound}
-use Rattle.loop_lines.proofs.ShownTexts.{and_parts, Shows, Closed, Sign, ◌▸◌, ◌◂◌, as_shows, word}
+use Rattle.loop_lines.proofs.Bools.{and_parts}
+use Rattle.loop_lines.proofs.ShownTexts.{Shows, Closed, Sign, ◌▸◌, ◌◂◌, as_shows, word}
 use Rattle.loop_lines.proofs.ShownWords.{name_shows, array_shows, numeral_of, value_is, decimal_shows, plus_sign, minus_sign, open_sign, close_sign}
 
 pub below : (n : ℕ) → nat_lt n (2 ^ 63) ≡ true → n < 2 ^ 63
@@ -69,7 +70,7 @@ number_of (negsuc n) e =
       shows = zero_minus ▸ decimal_shows (suc n) (below (suc n) e);
     }
 
--- a constant behind a text
+-- a constant after a text
 record ShiftOf (text : List ℕ) (ts : List Token) (z : ℤ) : Type 0 where
   pub written : Shift
   pub means : shift_of written ≡ z

@@ -11,19 +11,12 @@ use Rattle.loop_lines.specs.Reading.{◌>>=◌}
 use Rattle.loop_lines.specs.Words.{word_token, dotted}
 use Rattle.loop_lines.specs.Tokens.{pieces, before, tokens_of, line_tokens}
 use Rattle.loop_lines.specs.TokenReading.{front_run, after_run, starts_run, starts_with, tail, token_at}
+use Rattle.loop_lines.proofs.Bools.{and_parts}
 use Rattle.loop_lines.proofs.TokenLaws.{token_is, behind}
 
 pub known : (P : Bool → Type 0) (b : Bool) → ((b ≡ true) → P true) → ((b ≡ false) → P false) → P b
 known P true t f = t refl
 known P false t f = f refl
-
-pub and_parts : (a b : Bool) → (a && b) ≡ true → (a ≡ true) × (b ≡ true)
-and_parts true b e = (refl, e)
-and_parts false b e = absurd cc
-
-pub and_both : (a b : Bool) → a ≡ true → b ≡ true → (a && b) ≡ true
-and_both true b h k = k
-and_both false b h k = h
 
 pub not_true : (a : Bool) → not a ≡ true → a ≡ false
 not_true true e = absurd cc
@@ -33,7 +26,7 @@ not_true false e = refl
 abbrev pub ends_word : List ℕ → Bool
 ends_word s = not (starts_run s) && not (starts_with 46 s && starts_run (tail s))
 
--- a text is these words and signs where a word may end behind it
+-- a text is these words and signs where a word may end after it
 pub record Shows (text : List ℕ) (ts : List Token) : Type 0 where
   pub reads : (s : List ℕ) → ends_word s ≡ true → line_tokens (text ++ s) ≡ behind ts (line_tokens s)
 
@@ -58,15 +51,15 @@ joined : (a b : List ℕ) (xs ys : List Token) (s : List ℕ) → line_tokens (a
 joined a b xs ys s first second =
     ap line_tokens (append_assoc a b s) ∙ first ∙ ap (behind xs) second ∙ behind_both xs ys (line_tokens s)
 
--- a text behind a closed one
+-- a text after a closed one
 pub last : (a b : List ℕ) (xs ys : List Token) → Closed a xs → Shows b ys → Shows (a ++ b) (xs ++ ys)
 last a b xs ys h k = record { reads = λ s e. joined a b xs ys s (h.reads (b ++ s)) (k.reads s e) }
 
--- a sign behind a word
+-- a sign after a word
 pub sign_after : (a b : List ℕ) (xs ys : List Token) → Shows a xs → Sign b ys → Closed (a ++ b) (xs ++ ys)
 sign_after a b xs ys h k = record { reads = λ s. joined a b xs ys s (h.reads (b ++ s) (k.begins s)) (k.reads s) }
 
--- a closed text behind a closed one
+-- a closed text after a closed one
 pub closed_after : (a b : List ℕ) (xs ys : List Token) → Closed a xs → Closed b ys → Closed (a ++ b) (xs ++ ys)
 closed_after a b xs ys h k = record { reads = λ s. joined a b xs ys s (h.reads (b ++ s)) (k.reads s) }
 
@@ -122,7 +115,7 @@ starts_is (b ∷ w) s p lt = (and_parts (is_name_byte b) (list_all is_name_byte 
 no_blank : (b : ℕ) → is_name_byte b ≡ true → is_blank b ≡ false
 no_blank b e = grind (arith, nat_tests)
 
--- the token that stands first, and those behind it
+-- the token that stands first, and those after it
 abbrev onward : Option (Token × List ℕ) → Option (List Token)
 onward o = o >>= λ x. before x.0 (tokens_of (pieces x.1))
 

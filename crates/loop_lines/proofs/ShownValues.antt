@@ -19,7 +19,8 @@ use Rattle.loop_lines.specs.declared.tree.NamedExpr.TheFolds.{ind-NamedExpr, fol
 use Rattle.loop_lines.specs.Exprs.{Factor, Product, Sum, factor, product, sum, factor_of, product_of, sum_of}
 use Rattle.loop_lines.specs.Shown.{shown_op, shown_entry, shown_term, shown_value_step, shown_value}
 use Rattle.loop_lines.specs.Showable.{is_array, is_literal, is_showable_term, showable_value_step, is_showable_value}
-use Rattle.loop_lines.proofs.ShownTexts.{and_parts, Shows, Closed, Sign, ◌▸◌, ◌◂◌, as_shows}
+use Rattle.loop_lines.proofs.Bools.{and_parts}
+use Rattle.loop_lines.proofs.ShownTexts.{Shows, Closed, Sign, ◌▸◌, ◌◂◌, as_shows}
 use Rattle.loop_lines.proofs.ShownWords.{numeral_of, value_is, decimal_shows}
 use Rattle.loop_lines.proofs.ShownTerms.{below, entry_shows, term_of}
 

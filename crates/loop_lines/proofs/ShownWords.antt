@@ -20,7 +20,8 @@ use Rattle.loop_lines.specs.Words.{declaring, relating, nesting, unused, lookup,
 use Rattle.loop_lines.specs.Grammar.{Numeral, numeral, array, value}
 use Rattle.loop_lines.specs.Shown.{shown_array}
 use Rattle.loop_lines.specs.Showable.{is_part, is_array}
-use Rattle.loop_lines.proofs.ShownTexts.{known, and_parts, and_both, not_true, Shows, Sign, word, dotted_word}
+use Rattle.loop_lines.proofs.Bools.{and_parts, and_both}
+use Rattle.loop_lines.proofs.ShownTexts.{known, not_true, Shows, Sign, word, dotted_word}
 
 -- ---- names are no reserved words
 
@@ -127,7 +128,7 @@ array_shows (Dotted matrix part) e =
 
 -- ---- numbers
 
--- the number of digits behind a number
+-- the number of digits after a number
 abbrev digits_behind : ℕ → List ℕ → ℕ
 digits_behind n [] = n
 digits_behind n (b ∷ bs) = digits_behind (n * 10 + (b - 48)) bs

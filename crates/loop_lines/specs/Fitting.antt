@@ -43,7 +43,7 @@ body_after zero lines.End = Some Behind
 body_after (suc k) lines.End = Some (Inside k)
 body_after _ _ = None
 
--- Behind its end stands nothing.
+-- After its end stands nothing.
 abbrev pub place_after : Place → Line → Option Place
 place_after (Heading matrix) l = heading_after matrix l
 place_after (Inside blocks) l = body_after blocks l
@@ -56,7 +56,7 @@ moved place (Some l) = place_after place l
 abbrev pub next_place : Place → List ℕ → Option Place
 next_place place line = text_line line >>= λ l. moved place l
 
--- a text ends behind the loop's end
+-- a text ends after the loop's end
 abbrev pub ending : Place → ℕ → Option ℕ
 ending Behind n = None
 ending _ n = Some n

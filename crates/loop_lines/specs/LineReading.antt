@@ -155,7 +155,7 @@ set_at ts = entry_at ts >>= λ a. free_term_at a.1 >>= λ t. assigned_at t.1 >>=
 abbrev pub last_at : List Token → Option Line
 last_at ts = end_at ts >>= λ u. Some lines.End
 
--- The line behind its first word.
+-- The line after its first word.
 
 abbrev pub prop_at : Keyword → List Token → Option NamedProp
 prop_at keys.Range ts = range_at ts

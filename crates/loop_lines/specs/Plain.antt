@@ -1,7 +1,10 @@
 -- Names that consist of letters, digits and `_`.
-use Rattle.std.specs.Prelude.{◌≡◌, ℕ, Bool, true, List}
-use Rattle.std.specs.List.{list_all}
+use Rattle.std.specs.Prelude.{◌≡◌, ℕ, Bool, true, IsTrue, List, ◌∷◌, ◌++◌}
+use Rattle.std.specs.List.{list_all, flat_map}
+use Rattle.loop_core.specs.declared.nest.Nest.{Nest}
+use Rattle.loop_core.specs.IsNest.{declared_names}
 use Rattle.loop_core.specs.Names.{is_name_byte}
+use Rattle.loop_core.specs.Shape.{body_lines, line_names}
 use Rattle.loop_lines.specs.declared.line.Line.{Line}
 use Rattle.loop_lines.specs.declared.line.Line.TheVariants as lines
 
@@ -16,3 +19,11 @@ IsPlainLine (lines.Vector name size source) = is_plain name ≡ true
 IsPlainLine (lines.Loop name) = is_plain name ≡ true
 IsPlainLine (lines.For name lo hi) = is_plain name ≡ true
 IsPlainLine _ = Unit {0}
+
+-- the names that a nest declares, its variables' among them
+abbrev pub nest_names : Nest → List (List ℕ)
+nest_names nest = declared_names nest ++ nest.name ∷ flat_map (λ l. line_names l.form) (body_lines nest)
+
+-- they consist of letters, digits and `_`
+pub record HasNames (nest : Nest) : Type 0 where
+  pub names : IsTrue (list_all is_plain (nest_names nest))

@@ -18,7 +18,7 @@ IsInner text = list_all is_inner text ≡ true
 abbrev pub AreBlanks : List ℕ → Type 0
 AreBlanks blanks = list_all is_blank blanks ≡ true
 
--- Behind any blanks the text of a line ends no line, and is read as that line if it isn't too long.
+-- After any blanks the text of a line ends no line, and is read as that line if it isn't too long.
 pub record ReadsBack (l : Line) : Type 0 where
   pub inner : (blanks : List ℕ) → AreBlanks blanks → IsInner (blanks ++ shown_line l)
   pub same : (blanks : List ℕ) → AreBlanks blanks → length (blanks ++ shown_line l) ≤ 200 → text_line (blanks ++ shown_line l) ≡ Some (Some l)

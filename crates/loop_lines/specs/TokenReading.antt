@@ -7,7 +7,7 @@ use Rattle.loop_lines.specs.declared.token.Token.TheVariants as tokens
 use Rattle.loop_lines.specs.Words.{word_token, dotted}
 use Rattle.loop_lines.specs.Tokens.{sign}
 
--- the run at the front, and the bytes behind it
+-- the run at the front, and the bytes after it
 abbrev pub front_run : List ℕ → List ℕ
 front_run [] = []
 front_run (b ∷ bs) = if is_name_byte b then b ∷ front_run bs else []

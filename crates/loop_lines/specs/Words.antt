@@ -69,6 +69,6 @@ abbrev pub as_name : Token → Option (List ℕ)
 as_name (tokens.Name name) = Some name
 as_name _ = None
 
--- a name, and a word of the form of a name behind a point
+-- a name, and a word of the form of a name after a point
 abbrev pub dotted : List ℕ → List ℕ → Option Token
 dotted a b = word_token a >>= λ t. as_name t >>= λ matrix. name_form b >>= λ part. Some (tokens.Dotted matrix part)

@@ -126,7 +126,7 @@ fn factors(
 
 /// A sum at the front, in at most `fuel` calls in one another, and the rest.
 #[cycle(expr)]
-pub fn read_sum(
+fn read_sum(
     alloc: Global,
     fuel: usize,
     tokens: &[Token],

@@ -3,18 +3,18 @@ ghost use Rattle.std.specs.Prelude.{◌≡◌, Some, IfOk};
 ghost use Rattle.loop_lines.specs.Reading.{Gives};
 ghost use Rattle.loop_lines.specs.declared.line.Line.{Line};
 ghost use Rattle.loop_lines.specs.Lines.{IsLine};
-ghost use Rattle.loop_lines.specs.LineReading.{matrix_at, index_at, last_source_at, vector_at, alone_at, pair_at, by_pair_at, diagonal_at, bound_at, last_bound_at, range_at, loop_at, free_term_at, last_term_at, terms_at, for_at, when_at, value_at, assigned_at, set_at, last_at, prop_at, form_line_at, line_at};
+ghost use Rattle.loop_lines.specs.LineReading.{matrix_at, index_at, last_source_at, vector_at, alone_at, pair_at, by_pair_at, diagonal_at, last_bound_at, range_at, loop_at, free_term_at, last_term_at, terms_at, for_at, when_at, value_at, assigned_at, set_at, last_at, prop_at, form_line_at, line_at};
 
 use crate::expr::read_whole;
 use crate::line::{Line, NamedProp};
 use crate::refusal::LineRefusal;
 use crate::sign::{
-    array, behind_assign, behind_by, behind_in, behind_of, behind_to, element, end, form, name,
-    rel, size, source,
+    after_assign, after_by, after_in, after_of, after_to, array, element, end, form, name, rel,
+    size, source,
 };
-use crate::term::{after_zero, close, constant, read_term, shifted};
+use crate::term::{bound, close, read_term};
 use crate::token::{Keyword, Token};
-use crate::tree::{ArrayName, NamedAtom, NamedExpr, NamedTerm};
+use crate::tree::{ArrayName, NamedExpr, NamedTerm};
 use loop_core::decl::Source;
 use std::alloc::Global;
 
@@ -73,7 +73,7 @@ fn by_pair(tokens: &[Token]) -> Result<(ArrayName, ArrayName), LineRefusal>
     ensures { Gives (λ x. x) result (by_pair_at tokens.now) }
 {
     let (first, rest) = array(tokens)?;
-    let rest = behind_by(rest)?;
+    let rest = after_by(rest)?;
     let second = alone(rest)?;
     Ok((first, second))
 }
@@ -82,23 +82,9 @@ fn diagonal(tokens: &[Token]) -> Result<NamedProp, LineRefusal>
     ensures { Gives (λ x. x) result (diagonal_at tokens.now) }
 {
     let (places, rest) = array(tokens)?;
-    let rest = behind_of(rest)?;
+    let rest = after_of(rest)?;
     let (entries, by) = by_pair(rest)?;
     Ok(NamedProp::Diagonal(places, entries, by))
-}
-
-/// A number, 0 less a number, or a size with what is added or taken away.
-fn bound(tokens: &[Token]) -> Result<(NamedTerm, &[Token]), LineRefusal>
-    ensures { Gives (λ x. (x.0, x.1.now)) result (bound_at tokens.now) }
-{
-    match tokens {
-        [Token::Zero, rest @ ..] => after_zero(rest),
-        [Token::One, rest @ ..] => Ok((constant(1), rest)),
-        [Token::Number(n), rest @ ..] => Ok((constant(n.word()), rest)),
-        [Token::N, rest @ ..] => shifted(NamedAtom::N, rest),
-        [Token::Nnz, rest @ ..] => shifted(NamedAtom::Nnz, rest),
-        _ => Err(LineRefusal::Text),
-    }
 }
 
 fn last_bound(tokens: &[Token]) -> Result<NamedTerm, LineRefusal>
@@ -144,7 +130,7 @@ fn terms(alloc: Global, tokens: &[Token]) -> Result<(NamedTerm, NamedTerm), Line
     ensures { Gives (λ x. x) result (terms_at tokens.now) }
 {
     let (lo, rest) = free_term(alloc, tokens)?;
-    let rest = behind_to(rest)?;
+    let rest = after_to(rest)?;
     let hi = last_term(alloc, rest)?;
     Ok((lo, hi))
 }
@@ -153,7 +139,7 @@ fn inner(alloc: Global, tokens: &[Token]) -> Result<Line, LineRefusal>
     ensures { Gives (λ x. x) result (for_at tokens.now) }
 {
     let (name, rest) = name(tokens)?;
-    let rest = behind_in(rest)?;
+    let rest = after_in(rest)?;
     let (lo, hi) = terms(alloc, rest)?;
     Ok(Line::For(name, lo, hi))
 }
@@ -177,7 +163,7 @@ fn assigned(alloc: Global, tokens: &[Token]) -> Result<NamedExpr, LineRefusal>
     ensures { Gives (λ x. x) result (assigned_at tokens.now) }
 {
     let rest = close(tokens)?;
-    let rest = behind_assign(rest)?;
+    let rest = after_assign(rest)?;
     value(alloc, rest)
 }
 

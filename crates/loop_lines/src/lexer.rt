@@ -11,7 +11,7 @@ use crate::word::{dotted, is_name_byte, word_token};
 use std::alloc::Global;
 use text_base::words::skip_blanks;
 
-/// The longest run of letters, digits and `_` at the front, and the bytes behind it.
+/// The longest run of letters, digits and `_` at the front, and the bytes after it.
 fn split_run(line: &[u8]) -> (&[u8], &[u8])
     ensures run { result.0.now ≡ front_run line.now }
     ensures after { result.1.now ≡ after_run line.now }
@@ -123,7 +123,7 @@ fn mark_at(byte: u8, rest: &[u8]) -> Option<(Token, &[u8])>
     }
 }
 
-/// The word or sign at the front, where no blank is, and the bytes behind it.
+/// The word or sign at the front, where no blank is, and the bytes after it.
 fn token_at(line: &[u8]) -> Option<(Token, &[u8])>
     ensures { option_map (λ x. (x.0, x.1.now)) result ≡ token_at line.now }
 {

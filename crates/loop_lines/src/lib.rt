@@ -1,18 +1,17 @@
 //! The lines of a loop text: their words and signs, their forms, and where they stand.
 #![tactic(auto)]
 
+pub mod block;
 pub mod expr;
 pub mod forms;
 pub mod laws;
 pub mod lexer;
 pub mod line;
-pub mod number;
+mod number;
 pub mod place;
 pub mod refusal;
-pub mod sign;
-pub mod term;
-#[cfg(test)]
-mod tests;
+mod sign;
+mod term;
 pub mod token;
 pub mod tree;
-pub mod word;
+mod word;

@@ -41,7 +41,7 @@ pub fn array(tokens: &[Token]) -> Result<(ArrayName, &[Token]), LineRefusal>
     }
 }
 
-/// An array before `[`, and the rest behind it.
+/// An array before `[`, and the rest after it.
 pub fn element(tokens: &[Token]) -> Result<(ArrayName, &[Token]), LineRefusal>
     ensures { Gives (λ x. (x.0, x.1.now)) result (entry_at tokens.now) }
 {
@@ -51,8 +51,8 @@ pub fn element(tokens: &[Token]) -> Result<(ArrayName, &[Token]), LineRefusal>
     }
 }
 
-/// The rest behind `in`.
-pub fn behind_in(tokens: &[Token]) -> Result<&[Token], LineRefusal>
+/// The rest after `in`.
+pub fn after_in(tokens: &[Token]) -> Result<&[Token], LineRefusal>
     ensures { Gives (λ x. x.now) result (in_at tokens.now) }
 {
     match tokens {
@@ -61,8 +61,8 @@ pub fn behind_in(tokens: &[Token]) -> Result<&[Token], LineRefusal>
     }
 }
 
-/// The rest behind `of`.
-pub fn behind_of(tokens: &[Token]) -> Result<&[Token], LineRefusal>
+/// The rest after `of`.
+pub fn after_of(tokens: &[Token]) -> Result<&[Token], LineRefusal>
     ensures { Gives (λ x. x.now) result (of_at tokens.now) }
 {
     match tokens {
@@ -71,8 +71,8 @@ pub fn behind_of(tokens: &[Token]) -> Result<&[Token], LineRefusal>
     }
 }
 
-/// The rest behind `by`.
-pub fn behind_by(tokens: &[Token]) -> Result<&[Token], LineRefusal>
+/// The rest after `by`.
+pub fn after_by(tokens: &[Token]) -> Result<&[Token], LineRefusal>
     ensures { Gives (λ x. x.now) result (by_at tokens.now) }
 {
     match tokens {
@@ -81,8 +81,8 @@ pub fn behind_by(tokens: &[Token]) -> Result<&[Token], LineRefusal>
     }
 }
 
-/// The rest behind `..`.
-pub fn behind_to(tokens: &[Token]) -> Result<&[Token], LineRefusal>
+/// The rest after `..`.
+pub fn after_to(tokens: &[Token]) -> Result<&[Token], LineRefusal>
     ensures { Gives (λ x. x.now) result (to_at tokens.now) }
 {
     match tokens {
@@ -91,8 +91,8 @@ pub fn behind_to(tokens: &[Token]) -> Result<&[Token], LineRefusal>
     }
 }
 
-/// The rest behind `=`.
-pub fn behind_assign(tokens: &[Token]) -> Result<&[Token], LineRefusal>
+/// The rest after `=`.
+pub fn after_assign(tokens: &[Token]) -> Result<&[Token], LineRefusal>
     ensures { Gives (λ x. x.now) result (assign_at tokens.now) }
 {
     match tokens {

@@ -2,6 +2,7 @@
 ghost use Rattle.std.specs.Prelude.{◌≡◌, ◌<◌, ◌^◌};
 ghost use Rattle.std.specs.Option.{option_map};
 ghost use Rattle.loop_lines.specs.Reading.{Gives, array_at, open_at, entry_at, numeral_at, negated_at, shifted_at, close_at, closed_at, constant, zero_at, plain_at, term_at};
+ghost use Rattle.loop_lines.specs.LineReading.{bound_at};
 
 use crate::refusal::LineRefusal;
 use crate::token::Token;
@@ -44,8 +45,8 @@ pub fn array_name(tokens: &[Token]) -> Option<(ArrayName, &[Token])>
     }
 }
 
-/// The tokens behind `[`.
-pub fn behind_open(tokens: &[Token]) -> Option<&[Token]>
+/// The tokens after `[`.
+pub fn after_open(tokens: &[Token]) -> Option<&[Token]>
     ensures { option_map (λ x. x.now) result ≡ open_at tokens.now }
 {
     match tokens {
@@ -54,7 +55,7 @@ pub fn behind_open(tokens: &[Token]) -> Option<&[Token]>
     }
 }
 
-/// The tokens behind `]`.
+/// The tokens after `]`.
 pub fn close(tokens: &[Token]) -> Result<&[Token], LineRefusal>
     ensures { Gives (λ x. x.now) result (close_at tokens.now) }
 {
@@ -64,7 +65,7 @@ pub fn close(tokens: &[Token]) -> Result<&[Token], LineRefusal>
     }
 }
 
-/// The atom with the number that is added or taken away behind it.
+/// The atom with the number that is added or taken away after it.
 pub fn shifted(atom: NamedAtom, tokens: &[Token]) -> Result<(NamedTerm, &[Token]), LineRefusal>
     ensures { Gives (λ x. (x.0, x.1.now)) result (shifted_at atom tokens.now) }
 {
@@ -103,15 +104,15 @@ pub fn after_zero(tokens: &[Token]) -> Result<(NamedTerm, &[Token]), LineRefusal
     }
 }
 
-/// The array that is named at the front, before a bracket, and the tokens in the bracket and behind it.
+/// The array that is named at the front, before a bracket, and the tokens in the bracket and after it.
 pub fn entry(tokens: &[Token]) -> Option<(ArrayName, &[Token])>
     ensures { option_map (λ x. (x.0, x.1.now)) result ≡ entry_at tokens.now }
 {
     let (array, rest) = array_name(tokens)?;
-    Some((array, behind_open(rest)?))
+    Some((array, after_open(rest)?))
 }
 
-/// The bracket's end behind its term, and the shift.
+/// The bracket's end after its term, and the shift.
 fn closed(
     alloc: Global,
     array: ArrayName,
@@ -125,9 +126,9 @@ fn closed(
     shifted(NamedAtom::At(array, inner), rest)
 }
 
-/// A term without a bracket at the front, and the rest.
-fn plain(tokens: &[Token]) -> Result<(NamedTerm, &[Token]), LineRefusal>
-    ensures { Gives (λ x. (x.0, x.1.now)) result (plain_at tokens.now) }
+/// A number, 0 less a number, or a size with what is added or taken away.
+pub fn bound(tokens: &[Token]) -> Result<(NamedTerm, &[Token]), LineRefusal>
+    ensures { Gives (λ x. (x.0, x.1.now)) result (bound_at tokens.now) }
 {
     match tokens {
         [Token::Zero, rest @ ..] => after_zero(rest),
@@ -135,8 +136,17 @@ fn plain(tokens: &[Token]) -> Result<(NamedTerm, &[Token]), LineRefusal>
         [Token::Number(n), rest @ ..] => Ok((constant(n.word()), rest)),
         [Token::N, rest @ ..] => shifted(NamedAtom::N, rest),
         [Token::Nnz, rest @ ..] => shifted(NamedAtom::Nnz, rest),
-        [Token::Name(name), rest @ ..] => shifted(NamedAtom::Var(name.copy()), rest),
         _ => Err(LineRefusal::Text),
+    }
+}
+
+/// A term without a bracket at the front, and the rest.
+fn plain(tokens: &[Token]) -> Result<(NamedTerm, &[Token]), LineRefusal>
+    ensures { Gives (λ x. (x.0, x.1.now)) result (plain_at tokens.now) }
+{
+    match tokens {
+        [Token::Name(name), rest @ ..] => shifted(NamedAtom::Var(name.copy()), rest),
+        _ => bound(tokens),
     }
 }
 
