@@ -35,7 +35,7 @@ pub rises : (n : ℕ) (ls : List (List ℕ)) → Rise n (numbered_from n ls)
 rises n [] = tt
 rises n (l ∷ ls) = rise_before n (worded (text_line l)) (numbered_from (n + 1) ls) (rises (n + 1) ls)
 
--- lines behind line 400
+-- lines after line 400
 pub none_within : (n : ℕ) (ls : List Numbered) → 400 < n → Rise n ls → filter is_within ls ≡ []
 none_within n [] lt h = refl
 none_within n (l ∷ ls) lt h =
@@ -105,7 +105,7 @@ first_is written s count l ls near =
     let within : nat_le l.number 400 ≡ true = grind (arith, nat_tests, near) in
     rw within refl
 
--- lines of which none passes a limit: the first passes none, nor do those behind it
+-- lines of which none passes a limit: the first passes none, nor do those after it
 pub limits_first : (written : List ℕ) (s : Scope) (count : ℕ) (l : Numbered) (ls : List Numbered) → l.number < 401 → first_passed written s count (filter is_within (l ∷ ls)) ≡ None
     → (limits_at l.line (scope_after s l) (count + references written s l.line) ≡ None)
     × (first_passed written (scope_after s l) (count + references written s l.line) (filter is_within ls) ≡ None)
@@ -129,7 +129,7 @@ past_lines b = if b then Some (401, Lines) else None
 pub short_of : (count : ℕ) → lines_limit count ≡ None → count ≤ 400
 short_of count e = known (nat_lt 400 count) (λ h. absurd (absent (subst (λ (v : Bool). past_lines v ≡ None) h e))) (λ h. grind (arith, nat_tests, h))
 
--- a text that passes no limit: none of its lines does, and none is behind line 400
+-- a text that passes no limit: none of its lines does, and none is after line 400
 pub limits_of : (ls : List (List ℕ)) → first_limit (length ls) (numbered_from 1 ls) ≡ None
     → (first_passed (targets empty (numbered_from 1 ls)) empty 0 (filter is_within (numbered_from 1 ls)) ≡ None) × Below 401 (numbered_from 1 ls)
 limits_of ls e =
@@ -157,7 +157,7 @@ a_line limit count total s some is h =
 
 -- ---- the first limit, line by line
 
--- a line behind line 400 comes next
+-- a line after line 400 comes next
 pub past : (n : ℕ) (before after : List Numbered) (o : Option Numbered) (l : Numbered) → Rise n before → Follows before o after → o ≡ Some l → 400 < l.number → filter is_within before ≡ []
 past n before after o l rise follows is far =
     let here : before ≡ l ∷ after = subst (λ (o : Option Numbered). Follows before o after) is follows in

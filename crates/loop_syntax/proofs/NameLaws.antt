@@ -14,17 +14,16 @@ use Rattle.loop_core.specs.Shape.{Loop, Line as BodyLine, lines_of_all, lines_st
 use Rattle.loop_lines.specs.declared.line.Line.{Line}
 use Rattle.loop_lines.specs.declared.line.Line.TheVariants as lines
 use Rattle.loop_lines.specs.Fitting.{text_line}
-use Rattle.loop_lines.specs.Plain.{is_plain, IsPlainLine}
+use Rattle.loop_lines.specs.Plain.{is_plain, IsPlainLine, HasNames}
 use Rattle.loop_lines.proofs.PlainLaws.{worded_plain}
 use Rattle.loop_syntax.specs.declared.items.Head.TheVariants as heads
 use Rattle.loop_syntax.specs.declared.numbered.Numbered.{Numbered}
 use Rattle.loop_syntax.specs.Numbered.{worded, before, numbered_from, numbered}
 use Rattle.loop_syntax.specs.Scope.{Scope, empty, scope_after}
 use Rattle.loop_syntax.specs.Nesting.{Mark, Opens, Sets, Ends, joined, marks_step, item_marks, marks}
-use Rattle.loop_syntax.specs.PrintNames.{HasNames}
 use Rattle.loop_syntax.specs.Resolved.{declaration, mark, outer}
 use Rattle.loop_syntax.specs.TextNest.{gathered, IsNestOf}
-use Rattle.loop_syntax.proofs.PrintAscii.{and_left, and_both}
+use Rattle.loop_lines.proofs.Bools.{and_left, and_both}
 
 abbrev ArePlain : List Numbered → Type 0
 ArePlain [] = Unit {0}

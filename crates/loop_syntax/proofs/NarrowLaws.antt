@@ -12,8 +12,8 @@ use Rattle.loop_syntax.specs.declared.scope.Meaning.TheVariants as meanings
 use Rattle.loop_syntax.specs.declared.scope.ArrayUse.TheVariants as uses
 use Rattle.loop_syntax.specs.declared.scope.Known.{Known}
 use Rattle.loop_syntax.specs.declared.scope.Parts.{Parts}
-use Rattle.loop_syntax.specs.declared.scope.Block.{Block}
-use Rattle.loop_syntax.specs.declared.scope.Block.TheVariants.{Repeated, Guarded}
+use Rattle.loop_lines.specs.declared.block.Block.{Block}
+use Rattle.loop_lines.specs.declared.block.Block.TheVariants.{Repeated, Guarded}
 use Rattle.loop_syntax.specs.Scope.{Scope, empty, variables, known, found, meaning_of, declared, outer_blocks, parts_from, scope_behind, index_part, part_use, own_use, dotted_use, use_of}
 use Rattle.loop_syntax.specs.Resolved.{number_of, loop_line}
 use Rattle.loop_syntax.specs.Narrow.{IsNarrow}

@@ -1,4 +1,4 @@
--- The lines of items grow by what is put behind them.
+-- The lines of items grow by what is put after them.
 use Rattle.std.proofs.Common.{◌≡◌, ℕ, zero, suc, ◌+◌, List, [], ◌∷◌, ◌++◌, length, Some, refl, sym, ap, ◌∙◌, append_assoc, length-append, arith}
 use Rattle.std.proofs.lemmas.List.{append-nil}
 use Rattle.loop_core.specs.declared.nest.Item.{Item}

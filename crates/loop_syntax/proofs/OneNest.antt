@@ -40,7 +40,7 @@ after_all s (m ∷ ms) = after_all (after s m) ms
 abbrev with : List OpenBlock → List Item → State
 with os items = record { around = os; items = items }
 
--- an item's lines put it behind the items before it
+-- an item's lines put it after the items before it
 abbrev IsBuilt : Item → Type 0
 IsBuilt item = (os : List OpenBlock) (before : List Item) (rest : List Mark) → after_all (with os before) (item_marks item ++ rest) ≡ after_all (with os (before ++ item ∷ [])) rest
 

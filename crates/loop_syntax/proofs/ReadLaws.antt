@@ -62,6 +62,6 @@ is_few ls e = few ls (passes_all ls e).limited
 pub faultless : (ls : List (List ℕ)) → refusal ls ≡ None → first_fault empty (numbered ls) ≡ None
 faultless ls e = (passes_all ls e).named
 
--- lines that break no rule on names: the first breaks none, nor do those behind it
+-- lines that break no rule on names: the first breaks none, nor do those after it
 pub fine_first : (s : Scope) (l : Numbered) (ls : List Numbered) → first_fault s (l ∷ ls) ≡ None → (line_fault s l.line ≡ None) × (first_fault (scope_after s l) ls ≡ None)
 fine_first s l ls e = then_none l.number (line_fault s l.line) (first_fault (scope_after s l) ls) e

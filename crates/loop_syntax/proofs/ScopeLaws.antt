@@ -6,8 +6,8 @@ use Rattle.std.specs.Option.{option_map}
 use Rattle.std.specs.Cmp.Lexicographic.{bytes_decides}
 use Rattle.std.specs.HashMap.{HashMap, get}
 use Rattle.std.specs.Str.{bytes_eq}
-use Rattle.loop_syntax.specs.declared.scope.Block.{Block}
-use Rattle.loop_syntax.specs.declared.scope.Block.TheVariants.{Repeated, Guarded}
+use Rattle.loop_lines.specs.declared.block.Block.{Block}
+use Rattle.loop_lines.specs.declared.block.Block.TheVariants.{Repeated, Guarded}
 use Rattle.loop_syntax.specs.declared.scope.Known.{Known}
 use Rattle.loop_syntax.specs.declared.scope.Meaning.{Meaning}
 use Rattle.loop_syntax.specs.declared.scope.Meaning.TheVariants as meanings

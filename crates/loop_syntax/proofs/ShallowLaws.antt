@@ -10,8 +10,8 @@ use Rattle.loop_lines.specs.declared.line.Line.{Line}
 use Rattle.loop_lines.specs.declared.line.Line.TheVariants as lines
 use Rattle.loop_syntax.specs.declared.numbered.Numbered.{Numbered}
 use Rattle.loop_syntax.specs.declared.items.Head.TheVariants as heads
-use Rattle.loop_syntax.specs.declared.scope.Block.{Block}
-use Rattle.loop_syntax.specs.declared.scope.Block.TheVariants.{Repeated, Guarded}
+use Rattle.loop_lines.specs.declared.block.Block.{Block}
+use Rattle.loop_lines.specs.declared.block.Block.TheVariants.{Repeated, Guarded}
 use Rattle.loop_syntax.specs.Scope.{Scope, empty, variables, outer_blocks, scope_behind}
 use Rattle.loop_syntax.specs.Resolved.{mark}
 use Rattle.loop_syntax.specs.Nesting.{Mark, Opens, Sets, Ends, joined, marks_step, item_marks, marks}

@@ -1,4 +1,4 @@
--- Lines that fit lead from above the loop to behind it.
+-- Lines that fit lead from above the loop to after it.
 use Rattle.std.proofs.Common.{◌≡◌, ℕ, zero, suc, ◌+◌, Bool, true, false, List, [], ◌∷◌, Option, Some, None, refl, sym, ap, subst, ◌∙◌}
 use Rattle.loop_lines.specs.declared.line.Line.{Line}
 use Rattle.loop_lines.specs.declared.line.Line.TheVariants as lines
@@ -57,7 +57,7 @@ placed (places.Heading m) l q e = heading m l q e
 placed (places.Inside k) l q e = body k l q e
 placed places.Behind l q e = absurd cc
 
--- a line that fits, and the lines behind it
+-- a line that fits, and the lines after it
 stepped : (p q : Place) (n : ℕ) (o : Option Line) (more : List Numbered) → moved p o ≡ Some q → AreNested (stage_at q) more → AreNested (stage_at p) (before n o more)
 stepped p q n None more e h = subst (λ (p : Place). AreNested (stage_at p) more) (sym (some_is p q e)) h
 stepped p q n (Some l) more e h = rw (placed p l q e) h

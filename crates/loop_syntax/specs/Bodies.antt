@@ -20,19 +20,19 @@ outer_of bodies.Above = []
 outer_of (bodies.Within o) = (o.line, o.name) ∷ []
 outer_of (bodies.Behind line name items) = (line, name) ∷ []
 
--- the lines of the loop behind its first one
+-- the lines of the loop after its first one
 abbrev pub marks_of : Body → List Mark
 marks_of bodies.Above = []
 marks_of (bodies.Within o) = so_far o.around o.items
 marks_of (bodies.Behind line name items) = marks items ++ Ends ∷ []
 
--- a line of the loop comes behind those before it, and leads to a stage
+-- a line of the loop comes after those before it, and leads to a stage
 pub record Adds (o : OpenLoop) (next : Option Stage) (m : Mark) (new : Body) : Type 0 where
   pub stage : next ≡ Some (stage_of new)
   pub outer : outer_of new ≡ (o.line, o.name) ∷ []
   pub marks : marks_of new ≡ so_far o.around o.items ++ m ∷ []
 
--- a line comes behind those of a body
+-- a line comes after those of a body
 pub record Joins (s : Scope) (n : ℕ) (l : Line) (old new : Body) : Type 0 where
   pub stage : stage_after (stage_of old) l ≡ Some (stage_of new)
   pub outer : outer_of new ≡ outer_of old ++ outer n l

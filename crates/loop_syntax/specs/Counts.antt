@@ -94,12 +94,12 @@ passed is_passed kind = if is_passed then Some kind else None
 abbrev pub constant_limit : Line → Option LimitKind
 constant_limit l = if has_constants l then None else Some Constant
 
--- the first limit that the scope behind a line passes, or the references up to its end
+-- the first limit that the scope after a line passes, or the references up to its end
 abbrev pub scope_limit : Scope → ℕ → Option LimitKind
 scope_limit behind count =
     either (passed (nat_lt 64 behind.arrays) Arrays) (either (passed (nat_lt 6 (length (variables behind.blocks))) Depth) (passed (nat_lt 16 count) References))
 
--- the first limit that a line passes, with the scope behind it and the references up to its end
+-- the first limit that a line passes, with the scope after it and the references up to its end
 abbrev pub limits_at : Line → Scope → ℕ → Option LimitKind
 limits_at l behind count = either (constant_limit l) (scope_limit behind count)
 

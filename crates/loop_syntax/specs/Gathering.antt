@@ -8,7 +8,7 @@ use Rattle.loop_syntax.specs.Resolved.{declaration, property}
 use Rattle.loop_syntax.specs.Nesting.{Ends, marks}
 use Rattle.loop_syntax.specs.Bodies.{Goes, outer_of, marks_of}
 
--- a line comes behind those before it
+-- a line comes after those before it
 pub record Grows (s : Scope) (l : Numbered) (old new : Gathered) : Type 0 where
   pub decls : new.decls ≡ old.decls ++ declaration l.number l.line
   pub props : new.props ≡ old.props ++ property s l.number l.line

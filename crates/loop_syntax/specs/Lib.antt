@@ -12,12 +12,3 @@ pub mod ScopeFields
 pub mod Bodies
 pub mod Gathering
 pub mod TextNest
-pub mod PrintNames
-pub mod PrintBlocks
-pub mod PrintTerms
-pub mod PrintExprs
-pub mod PrintHeads
-pub mod PrintItems
-pub mod PrintText
-pub mod ShownText
-pub mod Renumbered

@@ -38,6 +38,6 @@ abbrev pub open_marks : List OpenBlock → List Mark
 open_marks [] = []
 open_marks (o ∷ os) = marks o.before ++ Opens o.line o.head ∷ open_marks os
 
--- the lines of open blocks and of the items behind them
+-- the lines of open blocks and of the items after them
 abbrev pub so_far : List OpenBlock → List Item → List Mark
 so_far around items = open_marks around ++ marks items

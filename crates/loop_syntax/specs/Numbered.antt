@@ -22,7 +22,7 @@ numbered_from n (l ∷ ls) = before n (worded (text_line l)) (numbered_from (n +
 abbrev pub numbered : List (List ℕ) → List Numbered
 numbered = numbered_from 1
 
--- the next line, and those behind it
+-- the next line, and those after it
 abbrev pub Follows : List Numbered → Option Numbered → List Numbered → Type 0
 Follows lines None rest = lines ≡ []
 Follows lines (Some l) rest = lines ≡ l ∷ rest

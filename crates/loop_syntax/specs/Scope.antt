@@ -13,8 +13,8 @@ use Rattle.loop_syntax.specs.declared.scope.Meaning.TheVariants as meanings
 use Rattle.loop_syntax.specs.declared.scope.ArrayUse.{ArrayUse}
 use Rattle.loop_syntax.specs.declared.scope.ArrayUse.TheVariants as uses
 use Rattle.loop_syntax.specs.declared.numbered.Numbered.{Numbered}
-use Rattle.loop_syntax.specs.declared.scope.Block.{Block}
-use Rattle.loop_syntax.specs.declared.scope.Block.TheVariants.{Repeated, Guarded}
+use Rattle.loop_lines.specs.declared.block.Block.{Block}
+use Rattle.loop_lines.specs.declared.block.Block.TheVariants.{Repeated, Guarded}
 use Rattle.loop_syntax.specs.declared.scope.Known.{Known}
 use Rattle.loop_syntax.specs.declared.scope.Parts.{Parts}
 

@@ -2,8 +2,8 @@
 use Rattle.std.specs.Prelude.{◌≡◌, ℕ, if◌then◌else◌, List, [], ◌∷◌, map, length, Option, Some, None}
 use Rattle.std.specs.HashMap.{HashMap}
 use Rattle.std.specs.Str.{bytes_eq}
-use Rattle.loop_syntax.specs.declared.scope.Block.{Block}
-use Rattle.loop_syntax.specs.declared.scope.Block.TheVariants.{Repeated, Guarded}
+use Rattle.loop_lines.specs.declared.block.Block.{Block}
+use Rattle.loop_lines.specs.declared.block.Block.TheVariants.{Repeated, Guarded}
 use Rattle.loop_syntax.specs.declared.scope.Known.{Known}
 use Rattle.loop_syntax.specs.declared.scope.Opened.{Opened}
 use Rattle.loop_syntax.specs.declared.standing.Key.{Key}

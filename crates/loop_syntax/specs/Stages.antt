@@ -1,4 +1,4 @@
--- Lines above the loop, in it and behind it.
+-- Lines above the loop, in it and after it.
 use Rattle.std.specs.Prelude.{◌≡◌, ℕ, zero, suc, ◌+◌, ◌≤◌, List, [], ◌∷◌, length, Option, Some, None}
 use Rattle.loop_lines.specs.declared.line.Line.{Line}
 use Rattle.loop_lines.specs.declared.line.Line.TheVariants as lines
@@ -6,7 +6,7 @@ use Rattle.loop_lines.specs.Reading.{◌>>=◌}
 use Rattle.loop_syntax.specs.declared.numbered.Numbered.{Numbered}
 use Rattle.loop_syntax.specs.Scope.{Scope, scope_after, variables}
 
--- above the loop, in it with so many open blocks, or behind its end
+-- above the loop, in it with so many open blocks, or after its end
 pub data Stage : Type 0 where
   Above : Stage
   Within : ℕ → Stage
@@ -38,7 +38,7 @@ abbrev pub stage_at_end : Stage → List Numbered → Option Stage
 stage_at_end stage [] = Some stage
 stage_at_end stage (l ∷ ls) = stage_after stage l.line >>= λ next. stage_at_end next ls
 
--- a whole loop, with nothing behind it
+-- a whole loop, with nothing after it
 abbrev pub AreNested : Stage → List Numbered → Type 0
 AreNested stage ls = stage_at_end stage ls ≡ Some Behind
 

@@ -181,7 +181,7 @@ fn go_above(alloc: Global, scope: &Scope, number: u16, line: &Line) -> Body
     }
 }
 
-/// The body with a line behind it, where the line can stand there.
+/// The body with a line after it, where the line can stand there.
 pub fn go_on(
     alloc: Global,
     scope: &Scope,

@@ -106,7 +106,7 @@ impl Gathered {
         Ok(Gathered { decls, props, body })
     }
 
-    /// The nest, behind the loop's end.
+    /// The nest, after the loop's end.
     fn nest(self) -> Nest
         requires { stage_of self.body ≡ Behind }
         ensures { IsMade self result }
@@ -125,7 +125,7 @@ impl Gathered {
     }
 }
 
-/// What a line adds, with the scope behind it.
+/// What a line adds, with the scope after it.
 fn step(
     alloc: Global,
     scope: &mut Scope,

@@ -11,19 +11,19 @@ use crate::constants::line_has_constants;
 use crate::numbered::{Numbered, NumberedLines};
 use crate::refusal::LimitKind;
 use crate::scope::Scope;
-use crate::written::{behind_line, written_arrays};
+use crate::written::{after_line, written_arrays};
 use loop_lines::line::Line;
 use std::alloc::Global;
 use text_base::lines::split_line;
 use wave_base::types::Memory;
 
-/// The limit that the scope behind a line or the references up to its end pass.
-fn scope_limit(behind: &Scope, references: u32) -> Option<LimitKind>
-    ensures { result ≡ scope_limit behind.now references }
+/// The limit that the scope after a line or the references up to its end pass.
+fn scope_limit(after: &Scope, references: u32) -> Option<LimitKind>
+    ensures { result ≡ scope_limit after.now references }
 {
-    if behind.arrays() > 64 {
+    if after.arrays() > 64 {
         Some(LimitKind::Arrays)
-    } else if behind.loops() > 6 {
+    } else if after.loops() > 6 {
         Some(LimitKind::Depth)
     } else if references > 16 {
         Some(LimitKind::References)
@@ -32,12 +32,12 @@ fn scope_limit(behind: &Scope, references: u32) -> Option<LimitKind>
     }
 }
 
-/// The first limit that a line passes, with the scope behind it and the references up to its end.
-fn limit_at(line: &Line, behind: &Scope, references: u32) -> Option<LimitKind>
-    ensures { result ≡ limits_at line.now behind.now references }
+/// The first limit that a line passes, with the scope after it and the references up to its end.
+fn limit_at(line: &Line, after: &Scope, references: u32) -> Option<LimitKind>
+    ensures { result ≡ limits_at line.now after.now references }
 {
     if line_has_constants(line) {
-        scope_limit(behind, references)
+        scope_limit(after, references)
     } else {
         Some(LimitKind::Constant)
     }
@@ -56,7 +56,7 @@ fn step(
     ensures scope { IfOk result (λ _. scope.new ≡ scope_after scope.old next) }
     ensures counted { references.new ≡ min 17 (references.old + flagged flags.now scope.old (data_arrays next.line)) }
 {
-    *references = behind_line(flags, scope, &next.line, *references);
+    *references = after_line(flags, scope, &next.line, *references);
     scope.pass(next.number, &next.line)?;
     Ok(limit_at(&next.line, scope, *references))
 }

@@ -51,7 +51,7 @@ fn add(before: Items<Item>, item: Item) -> Result<Items<Item>, Memory>
     Ok(items)
 }
 
-/// The items with a statement behind them.
+/// The items with a statement after them.
 pub fn add_statement(
     before: Items<Item>,
     line: u16,
@@ -70,7 +70,7 @@ pub fn add_statement(
     add(before, item)
 }
 
-/// The items before a block, and the block behind them, which has these items.
+/// The items before a block, and the block after them, which has these items.
 pub fn close_block(begun: OpenBlock, body: Items<Item>) -> Result<Items<Item>, Memory>
     ensures { IfOk result (λ items. marks items ≡ marks begun.before ++ Opens begun.line begun.head ∷ (marks body ++ Ends ∷ [])) }
 {

@@ -1,20 +1,17 @@
-//! The text of a loop nest: the nest that it is, and its canonical text.
+//! The text of a loop nest, read to the nest that it is.
 #![tactic(auto)]
 
-pub mod body;
-pub mod build;
-pub mod constants;
-pub mod counts;
+mod body;
+mod build;
+mod constants;
+mod counts;
 pub mod items;
 pub mod laws;
-pub mod names;
+mod names;
 pub mod numbered;
-pub mod print;
 pub mod read;
 pub mod refusal;
-pub mod resolve;
+mod resolve;
 pub mod scope;
 mod standing;
-#[cfg(test)]
-mod tests;
-pub mod written;
+mod written;

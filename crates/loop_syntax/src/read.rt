@@ -3,7 +3,7 @@ ghost use Rattle.std.specs.Prelude.{◌≡◌, ◌≤◌, ◌^◌, None, length,
 ghost use Rattle.text_base.specs.Lines.{lines};
 ghost use Rattle.loop_core.specs.Depth.{body_depth};
 ghost use Rattle.loop_core.specs.Sizes.{sizes};
-ghost use Rattle.loop_syntax.specs.PrintNames.{HasNames};
+ghost use Rattle.loop_lines.specs.Plain.{HasNames};
 ghost use Rattle.loop_syntax.specs.TextNest.{refusal, Answers};
 
 use crate::build::build;

@@ -6,6 +6,7 @@ ghost use Rattle.loop_syntax.specs.Scope.{empty, variables, meaning_of, declared
 use crate::standing::{Standings, make_room, own_meaning, put_declared, put_variable, standing_of};
 use loop_core::decl::{Form, Size};
 use loop_core::name::Name;
+use loop_lines::block::Block;
 use loop_lines::line::Line;
 use loop_lines::tree::ArrayName;
 use std::alloc::Global;
@@ -40,13 +41,6 @@ pub enum Meaning {
 pub struct Known {
     pub name: Name,
     pub meaning: Meaning,
-}
-
-/// An open block: a loop with its line and its variable's name, or a guard.
-#[derive(Debug, Drop)]
-pub enum Block {
-    Repeated { line: u32, name: Name },
-    Guarded,
 }
 
 /// What stands where an array is named.

@@ -72,7 +72,7 @@ pub fn written_arrays(alloc: Global, bytes: &[u8]) -> Result<Vec<bool>, Memory>
 }
 
 /// The references so far and that to an array, counted up to 17.
-fn behind_array(flags: &[bool], scope: &Scope, array: &ArrayName, before: u32) -> u32
+fn after_array(flags: &[bool], scope: &Scope, array: &ArrayName, before: u32) -> u32
     requires { before ≤ 17 }
     ensures { result ≡ min 17 (before + flagged flags.now scope.now (array.now ∷ [])) }
 {
@@ -85,29 +85,29 @@ fn behind_array(flags: &[bool], scope: &Scope, array: &ArrayName, before: u32) -
 }
 
 /// The references so far and those that an expression reads, counted up to 17.
-fn behind_value(flags: &[bool], scope: &Scope, value: &NamedExpr, before: u32) -> u32
+fn after_value(flags: &[bool], scope: &Scope, value: &NamedExpr, before: u32) -> u32
     requires { before ≤ 17 }
     ensures { result ≡ min 17 (before + flagged flags.now scope.now (reads value.now)) }
 {
     match value {
         NamedExpr::Lit(_) => before,
-        NamedExpr::Read(array, _) => behind_array(flags, scope, array, before),
+        NamedExpr::Read(array, _) => after_array(flags, scope, array, before),
         NamedExpr::Op(_, left, right) => {
-            let left = behind_value(flags, scope, left.get(), before);
-            behind_value(flags, scope, right.get(), left)
+            let left = after_value(flags, scope, left.get(), before);
+            after_value(flags, scope, right.get(), left)
         }
     }
 }
 
 /// The references to written arrays up to the end of a line, counted up to 17, from those before it.
-pub fn behind_line(flags: &[bool], scope: &Scope, line: &Line, before: u32) -> u32
+pub fn after_line(flags: &[bool], scope: &Scope, line: &Line, before: u32) -> u32
     requires { before ≤ 17 }
     ensures { result ≡ min 17 (before + flagged flags.now scope.now (data_arrays line.now)) }
 {
     match line {
         Line::Set(array, _, value) => {
-            let reads = behind_value(flags, scope, value, before);
-            behind_array(flags, scope, array, reads)
+            let reads = after_value(flags, scope, value, before);
+            after_array(flags, scope, array, reads)
         }
         _ => before,
     }

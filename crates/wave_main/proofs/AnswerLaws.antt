@@ -1,7 +1,7 @@
 -- At most one refusal stands, none beside a text, and a command has one text.
 use Rattle.std.proofs.Common.{ℕ, ◌≡◌, ◌⊎◌, inl, inr, ◌≤◌, List, [], ◌∷◌, Option, Some, None, drop, refl, sym, ◌∙◌, ap, subst, arith}
 use Rattle.loop_core.specs.declared.nest.Nest.{Nest}
-use Rattle.loop_syntax.specs.PrintText.{nest_text}
+use Rattle.loop_print.specs.PrintText.{nest_text}
 use Rattle.loop_syntax.proofs.OneNest.{one_nest}
 use Rattle.wave_words.specs.Words.{IsCommand, IsUsageAt}
 use Rattle.wave_main.specs.declared.status.Status.{Status}

@@ -10,7 +10,7 @@ use Rattle.wave_io.specs.Written.{grown, TookPart}
 use Rattle.loop_core.specs.declared.nest.Nest.{Nest}
 use Rattle.loop_syntax.specs.declared.refusal.LoopRefusal.{LoopRefusal}
 use Rattle.loop_syntax.specs.declared.refusal.LoopRefusal.TheVariants as loop_refusals
-use Rattle.loop_syntax.specs.PrintText.{nest_text}
+use Rattle.loop_print.specs.PrintText.{nest_text}
 use Rattle.loop_syntax.specs.TextNest.{refusal}
 use Rattle.array_bind.specs.declared.shape.ShapeRefusal.{ShapeRefusal}
 use Rattle.array_bind.specs.declared.shape.ShapeRefusal.TheVariants as shape_refusals

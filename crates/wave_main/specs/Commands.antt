@@ -1,7 +1,7 @@
 -- What the commands print and refuse.
 use Rattle.std.specs.Prelude.{◌≡◌, ◌⊎◌, ℕ, ◌<◌, ◌≤◌, List, [], ◌∷◌, IsTrue, length, Option, Some, slice_get, codes}
 use Rattle.loop_core.specs.declared.nest.Nest.{Nest}
-use Rattle.loop_syntax.specs.PrintText.{nest_text}
+use Rattle.loop_print.specs.PrintText.{nest_text}
 use Rattle.wave_words.specs.declared.form.Form.{Form}
 use Rattle.wave_words.specs.declared.form.Form.TheVariants as forms
 use Rattle.wave_words.specs.Forms.{has_form}

@@ -2,7 +2,7 @@
 ghost use Rattle.std.specs.Prelude.{◌≡◌, ◌⊎◌, ◌≤◌, ℕ, List, None, Some, MatchResult, IfOk, length};
 ghost use Rattle.loop_core.specs.Depth.{body_depth};
 ghost use Rattle.loop_core.specs.Sizes.{sizes};
-ghost use Rattle.loop_syntax.specs.PrintNames.{HasNames};
+ghost use Rattle.loop_lines.specs.Plain.{HasNames};
 ghost use Rattle.wave_main.specs.Files.{IsFetched};
 ghost use Rattle.wave_main.specs.Loops.{loop_status, loop_fault, IsLoop};
 

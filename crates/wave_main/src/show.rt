@@ -2,13 +2,13 @@
 ghost use Rattle.std.specs.Prelude.{◌≡◌, ◌⊎◌, ℕ, List, Some, MatchResult};
 ghost use Rattle.std.specs.String.{string_bytes};
 ghost use Rattle.loop_core.specs.declared.nest.Nest.{Nest};
-ghost use Rattle.loop_syntax.specs.PrintText.{nest_text};
+ghost use Rattle.loop_print.specs.PrintText.{nest_text};
 ghost use Rattle.wave_main.specs.Files.{IsFetched};
 ghost use Rattle.wave_main.specs.Loops.{IsLoop, loop_fault};
 
 use crate::loops::read_loop;
 use crate::status::Status;
-use loop_syntax::print::print;
+use loop_print::print::print;
 use std::alloc::Global;
 
 /// The canonical text of the loop of a file that was fetched, or why the file is refused.

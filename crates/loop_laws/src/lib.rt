@@ -1,0 +1,4 @@
+//! What holds of loop texts that are read and printed.
+#![tactic(auto)]
+
+pub mod laws;

@@ -1,0 +1,4 @@
+pub mod PrintAscii
+pub mod PrintTermsAscii
+pub mod PrintHeadsAscii
+pub mod PrintNestAscii

@@ -1,5 +1,0 @@
-use Rattle.loop_syntax.proofs.ShownNest.{nest_text_is_shown}
-use Rattle.loop_syntax.proofs.laws.printed_text_is_that_of_its_lines.Goals as goal
-
-pub returns : goal.returns
-returns c = λ ls nest h. nest_text_is_shown ls nest h
