@@ -1,11 +1,17 @@
 """Makes the files of bench/end_to_end.sh and measures the two programs on them.
 
-    end_to_end.py make FOLDER SIDE ROWS     writes grid.mtx, grid_b.mtx, lower.mtx, lower_b.mtx
+    end_to_end.py make FOLDER SIDE ROWS FULL     writes a matrix and its right side for each shape
     end_to_end.py turns FOLDER TURNS LOOP PROGRAM PLAIN
 
-`grid` is the 5-point matrix of SIDE * SIDE points, 4 on the diagonal and -1 for each neighbour. `lower` has
-ROWS rows with 7 random places before the diagonal, which may coincide, and a diagonal of 1 to 9. The
-right sides are those for which forward substitution gives 1, 2, 3 and so on.
+The shapes:
+
+- `grid`: the 5-point matrix of SIDE * SIDE points, 4 on the diagonal and -1 for each neighbour.
+- `by_rows`: ROWS rows with 7 random places before the diagonal, which may coincide, and a diagonal of 1 to 9,
+  its entries in the order of rows.
+- `by_columns`, `shuffled`: the same matrix with its entries in the order of columns, and in random order.
+- `full`: FULL rows with every place up to the diagonal.
+
+The right sides are those for which forward substitution gives 1, 2, 3 and so on.
 """
 import filecmp
 import os
@@ -13,9 +19,11 @@ import random
 import statistics
 import sys
 import time
+from array import array
 
 COORDINATE = "%%MatrixMarket matrix coordinate integer general\n"
 ARRAY = "%%MatrixMarket matrix array integer general\n"
+SHAPES = "grid", "by_rows", "by_columns", "shuffled", "full"
 
 
 def grid_row(side, row):
@@ -40,22 +48,63 @@ def lower_row(draw, row):
     yield row, 1 + int(draw() * 9)
 
 
-def write(folder, name, rows, entries, row_of):
-    """the matrix file, and the right side of the solution 1, 2, 3, .."""
-    with open(os.path.join(folder, name + ".mtx"), "w") as matrix, \
-            open(os.path.join(folder, name + "_b.mtx"), "w") as right_side:
-        matrix.write(f"{COORDINATE}{rows} {rows} {entries}\n")
-        right_side.write(f"{ARRAY}{rows} 1\n")
+def full_row(draw, row):
+    """every place before the diagonal, and the diagonal"""
+    for column in range(row):
+        yield column, int(draw() * 19) - 9
+    yield row, 1 + int(draw() * 9)
+
+
+class Matrix:
+    """the entries of all rows, and the right side of the solution 1, 2, 3, .."""
+
+    def __init__(self, rows, row_of):
+        self.rows, self.columns, self.values = array("L"), array("L"), array("l")
+        self.right_side = []
         for row in range(rows):
-            places = list(row_of(row))
-            matrix.write("".join([f"{row + 1} {column + 1} {value}\n" for column, value in places]))
-            right_side.write(f"{sum([value * (column + 1) for column, value in places if column <= row])}\n")
+            wanted = 0
+            for column, value in row_of(row):
+                self.rows.append(row + 1)
+                self.columns.append(column + 1)
+                self.values.append(value)
+                wanted += value * (column + 1) if column <= row else 0
+            self.right_side.append(wanted)
+
+    def write(self, folder, name, order):
+        """the matrix file with its entries in this order, and the file of the right side"""
+        size = len(self.right_side)
+        with open(os.path.join(folder, name + ".mtx"), "w") as matrix:
+            matrix.write(f"{COORDINATE}{size} {size} {len(self.values)}\n")
+            for at in order:
+                matrix.write(f"{self.rows[at]} {self.columns[at]} {self.values[at]}\n")
+        with open(os.path.join(folder, name + "_b.mtx"), "w") as right_side:
+            right_side.write(f"{ARRAY}{size} 1\n")
+            right_side.writelines(f"{wanted}\n" for wanted in self.right_side)
+
+    def by_rows(self):
+        return range(len(self.values))
+
+    def by_columns(self):
+        return sorted(self.by_rows(), key=self.columns.__getitem__)
+
+    def shuffled(self, draw):
+        order = list(self.by_rows())
+        draw.shuffle(order)
+        return order
 
 
-def make(folder, side, rows):
-    write(folder, "grid", side * side, side * side + 4 * side * (side - 1), lambda row: grid_row(side, row))
-    draw = random.Random(1).random
-    write(folder, "lower", rows, 8 * rows - 7, lambda row: lower_row(draw, row))
+def make(folder, side, rows, full):
+    grid = Matrix(side * side, lambda row: grid_row(side, row))
+    grid.write(folder, "grid", grid.by_rows())
+    del grid
+    draw = random.Random(1)
+    lower = Matrix(rows, lambda row: lower_row(draw.random, row))
+    lower.write(folder, "by_rows", lower.by_rows())
+    lower.write(folder, "by_columns", lower.by_columns())
+    lower.write(folder, "shuffled", lower.shuffled(draw))
+    del lower
+    triangle = Matrix(full, lambda row: full_row(draw.random, row))
+    triangle.write(folder, "full", triangle.by_rows())
 
 
 def measured(words, output):
@@ -71,7 +120,7 @@ def measured(words, output):
     return seconds, used.ru_utime + used.ru_stime, used.ru_maxrss / 1024
 
 
-def told(part, what, unit, limit, ours, plain):
+def compared(part, what, unit, limit, ours, plain):
     ours, plain = (statistics.median([one[part] for one in taken]) for taken in (ours, plain))
     ratio = ours / plain
     mark = "" if ratio <= limit else f", above {limit}"
@@ -79,9 +128,9 @@ def told(part, what, unit, limit, ours, plain):
 
 
 def turns(folder, count, loop, program, plain):
-    """whether both programs printed the same on both matrices, each time"""
+    """whether both programs printed the same on every matrix, each time"""
     all_same = True
-    for name in "grid", "lower":
+    for name in SHAPES:
         same = True
         matrix, right_side = (os.path.join(folder, name + end) for end in (".mtx", "_b.mtx"))
         bodies = {
@@ -94,9 +143,9 @@ def turns(folder, count, loop, program, plain):
                 taken[body].append(measured(bodies[body], os.path.join(folder, body)))
             same = filecmp.cmp(os.path.join(folder, "wave"), os.path.join(folder, "plain"), shallow=False) and same
         print(f"{name}: {os.path.getsize(matrix) / 2**20:.0f} MB of matrix, {count} turns, medians")
-        told(0, "time", "s", 6, *taken.values())
-        told(1, "processor", "s", 6, *taken.values())
-        told(2, "memory", "MB", 3, *taken.values())
+        compared(0, "time", "s", 2.5, *taken.values())
+        compared(1, "processor", "s", 2.5, *taken.values())
+        compared(2, "memory", "MB", 3, *taken.values())
         print(f"  output    {'the same' if same else 'DIFFERS'}")
         all_same = all_same and same
     return all_same
@@ -105,6 +154,6 @@ def turns(folder, count, loop, program, plain):
 if __name__ == "__main__":
     command, folder, *rest = sys.argv[1:]
     if command == "make":
-        make(folder, int(rest[0]), int(rest[1]))
+        make(folder, *map(int, rest))
     elif not turns(folder, int(rest[0]), *rest[1:]):
         sys.exit(1)
