@@ -1,17 +1,17 @@
 -- At most one refusal stands, none beside a text, and a command has one text.
-use Rattle.std.proofs.Common.{ℕ, ◌≡◌, ◌⊎◌, inl, inr, ◌≤◌, List, [], ◌∷◌, Option, Some, None, drop, refl, sym, ◌∙◌, ap, subst, arith}
+use Rattle.std.proofs.Common.{ℕ, ◌≡◌, inl, inr, ◌≤◌, List, Option, Some, None, drop, refl, sym, ◌∙◌, ap, subst, arith}
 use Rattle.loop_core.specs.declared.nest.Nest.{Nest}
 use Rattle.loop_print.specs.PrintText.{nest_text}
 use Rattle.loop_syntax.proofs.OneNest.{one_nest}
-use Rattle.wave_words.specs.Words.{IsCommand, IsUsageAt}
+use Rattle.wave_words.specs.Words.{IsUsageAt}
 use Rattle.wave_main.specs.declared.status.Status.{Status}
-use Rattle.wave_main.specs.declared.status.Status.TheVariants.{Usage, NotBuilt}
+use Rattle.wave_main.specs.declared.status.Status.TheVariants.{Usage}
 use Rattle.wave_main.specs.Answers.{AreFilesOf, AreTold}
-use Rattle.wave_main.specs.Commands.{IsBuiltRun, IsRun, IsShow, Prints, Refuses, RefusesWords, all_forms, unbuilt}
+use Rattle.wave_main.specs.Commands.{IsBuiltRun, IsShow, Prints, Refuses, RefusesWords, all_forms}
 use Rattle.wave_main.specs.Files.{word_of}
 use Rattle.wave_main.specs.Loops.{IsLoop, loop_fault}
 use Rattle.wave_main.specs.Matrices.{matrix_of, vectors_of}
-use Rattle.wave_main.specs.Run.{RunPrints, run_fault, run_text, files_fault, vector_files}
+use Rattle.wave_main.specs.Run.{RunPrints, run_fault, run_text, vector_files}
 use Rattle.wave_main.proofs.FileLaws.{same_file, same_vectors}
 use Rattle.wave_main.proofs.WordLaws.{run_not_show, unbuilt_not_run, unbuilt_not_show, run_is_command, show_is_command, unbuilt_is_command}
 

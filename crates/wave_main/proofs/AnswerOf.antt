@@ -1,10 +1,10 @@
 -- From how a call ends to what its answer says.
-use Rattle.std.proofs.Common.{ℕ, ◌≡◌, ◌≢◌, ◌⊎◌, inl, inr, List, Option, Some, None, refl, sym, ◌∙◌, ap, subst}
+use Rattle.std.proofs.Common.{ℕ, ◌≡◌, ◌≢◌, ◌⊎◌, inl, inr, List, refl, sym, ◌∙◌, ap, subst}
 use Rattle.std.specs.Prelude.{◌↔◌}
 use Rattle.wave_io.specs.Written.{grown}
 use Rattle.wave_main.specs.declared.status.Status.{Status}
 use Rattle.wave_main.specs.declared.status.Status.TheVariants.{Done, Usage, ReadFault, LoopText, LoopName, LoopLimit, MatrixText, Shape, NotBuilt, WriteFault, Memory}
-use Rattle.wave_main.specs.Answers.{Call, Changes, Ends, IsRefusal, IsSettled, AreFilesOf, AreTold, HasNoFault, IsAnswer}
+use Rattle.wave_main.specs.Answers.{Call, Changes, Ends, IsRefusal, IsSettled, AreFilesOf, HasNoFault, IsAnswer}
 use Rattle.wave_main.specs.Commands.{Prints, Refuses}
 use Rattle.wave_main.proofs.AnswerLaws.{one_refusal, no_refusal, one_text, told_prints}
 

@@ -1,5 +1,5 @@
 -- How a command ends, from what its parts say.
-use Rattle.std.proofs.Common.{ℕ, ◌≡◌, ◌⊎◌, inl, inr, ◌<◌, ◌≤◌, ◌+◌, ◌^◌, List, [], ◌∷◌, Option, Some, None, length, drop, refl, sym, ◌∙◌, ap, subst, arith}
+use Rattle.std.proofs.Common.{ℕ, ◌≡◌, ◌⊎◌, inl, inr, ◌+◌, List, [], ◌∷◌, Option, Some, None, length, drop, refl, sym, subst}
 use Rattle.std.specs.Prelude.{Result, Ok, Err, IsErrAnd, IfErr, OnOk, Bool, true, false, if◌then◌else◌, nat_lt}
 use Rattle.std.specs.Option.{option_map}
 use Rattle.text_base.specs.Lines.{lines}
@@ -7,10 +7,8 @@ use Rattle.mtx_read.specs.Files.{matrix, vector}
 use Rattle.loop_syntax.specs.declared.refusal.LimitKind.TheVariants.{Length}
 use Rattle.wave_io.specs.Faults.{Rose}
 use Rattle.wave_io.specs.Written.{grown, TookPart}
-use Rattle.loop_core.specs.declared.nest.Nest.{Nest}
 use Rattle.loop_syntax.specs.declared.refusal.LoopRefusal.{LoopRefusal}
 use Rattle.loop_syntax.specs.declared.refusal.LoopRefusal.TheVariants as loop_refusals
-use Rattle.loop_print.specs.PrintText.{nest_text}
 use Rattle.loop_syntax.specs.TextNest.{refusal}
 use Rattle.array_bind.specs.declared.shape.ShapeRefusal.{ShapeRefusal}
 use Rattle.array_bind.specs.declared.shape.ShapeRefusal.TheVariants as shape_refusals
@@ -18,13 +16,13 @@ use Rattle.mtx_read.specs.declared.refusal.MtxRefusal.{MtxRefusal}
 use Rattle.mtx_read.specs.declared.refusal.MtxRefusal.TheVariants as mtx_refusals
 use Rattle.wave_main.specs.declared.status.Status.{Status}
 use Rattle.wave_main.specs.declared.status.Status.TheVariants.{Done, Usage, ReadFault, LoopText, LoopName, LoopLimit, MatrixText, Shape, NotBuilt, WriteFault, Memory}
-use Rattle.wave_main.specs.Answers.{Changes, Ends, IsReadFault, status_of, AreFilesOf}
-use Rattle.wave_main.specs.Commands.{IsBuiltRun, IsShow, IsFilePlace, Prints, Refuses, RefusesWords}
-use Rattle.wave_main.specs.Fetching.{IsRunFault, IsRunFetched}
+use Rattle.wave_main.specs.Answers.{Changes, Ends, status_of, AreFilesOf}
+use Rattle.wave_main.specs.Commands.{IsBuiltRun, IsShow, Prints, Refuses, RefusesWords}
+use Rattle.wave_main.specs.Fetching.{IsRunFault}
 use Rattle.wave_main.specs.Files.{word_of}
-use Rattle.wave_main.specs.Loops.{IsLoop, loop_fault, loop_status}
-use Rattle.wave_main.specs.Matrices.{first_status, fault_of, matrix_status, matrix_fault, vectors_fault, matrix_of, vectors_of}
-use Rattle.wave_main.specs.Run.{RunPrints, run_fault, files_fault, binding_fault, shape_status, vector_files, declared}
+use Rattle.wave_main.specs.Loops.{loop_fault, loop_status}
+use Rattle.wave_main.specs.Matrices.{first_status, fault_of, matrix_status, matrix_fault, vectors_fault}
+use Rattle.wave_main.specs.Run.{files_fault, shape_status}
 
 -- what files may be refused with: no other end of a call
 abbrev pub IsFault : Status → Type 0

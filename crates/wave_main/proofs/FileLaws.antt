@@ -1,6 +1,6 @@
 -- Files, and bytes that they may have.
 use Rattle.std.proofs.Common.{ℕ, zero, suc, ◌≡◌, ◌⊎◌, inl, inr, ◌<◌, ◌≤◌, ◌+◌, ◌-◌, ◌^◌, List, [], ◌∷◌, ◌++◌, Option, Some, None, length, map, drop, refl, sym, ◌∙◌, ap, subst, arith, replicate}
-use Rattle.std.specs.Prelude.{IfSome, Vec, slice_index_or, String, string_bytes, get_or, take, Result, Ok, Err, IsErrAnd, IfErr, MatchResult}
+use Rattle.std.specs.Prelude.{IfSome, Vec, String, string_bytes, get_or, take, Result, Ok, Err, IsErrAnd, IfErr, MatchResult}
 use Rattle.wave_io.specs.Faults.{Rose}
 use Rattle.wave_words.specs.Words.{texts}
 use Rattle.wave_main.specs.declared.status.Status.{Status}
@@ -25,7 +25,7 @@ some_long limit (Some all) long = (all, refl, long)
 pub of_same_file : (limit : ℕ) (told now_told : Option (List ℕ)) (got : Option (Vec ℕ Global)) → told ≡ now_told → IsOfFile limit told got → IsOfFile limit now_told got
 of_same_file limit told now_told got same file = let P : Option (List ℕ) → Type 0 = λ t. IsOfFile limit t got in subst P same file
 
--- one more file behind others
+-- one more file after others
 may_be_more : (held : List ℕ → Option (List ℕ)) (names : List (List ℕ)) (files : List (List ℕ)) (name bytes : List ℕ) → MayBeAll held names files → MayBe (held name) bytes
     → MayBeAll held (names ++ name ∷ []) (files ++ bytes ∷ [])
 may_be_more held [] [] name bytes all one = (one, tt)

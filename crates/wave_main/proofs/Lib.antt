@@ -1,4 +1,3 @@
-pub mod ReportLaws
 pub mod WordLaws
 pub mod FileLaws
 pub mod EndLaws

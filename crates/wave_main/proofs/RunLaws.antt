@@ -1,8 +1,8 @@
 -- The text of a run, from its input.
-use Rattle.std.proofs.Common.{ℕ, ℤ, ◌≡◌, List, refl, sym, ◌∙◌, ap}
+use Rattle.std.proofs.Common.{ℕ, ℤ, ◌≡◌, List, ◌∙◌, ap}
 use Rattle.loop_core.specs.Lists.{Lists}
 use Rattle.loop_core.specs.Sequence.{sequential}
-use Rattle.array_bind.specs.Lists.{arrays_of, values_of}
+use Rattle.array_bind.specs.Lists.{arrays_of}
 use Rattle.wave_main.specs.declared.run.Input.{Input}
 use Rattle.wave_main.specs.ArrayText.{arrays_text}
 use Rattle.wave_main.specs.Matrices.{matrix_of, vectors_of}

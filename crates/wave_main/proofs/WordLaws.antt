@@ -1,16 +1,14 @@
 -- Commands are told apart by their first words.
-use Rattle.std.proofs.Common.{ℕ, ◌≡◌, ◌≢◌, ◌⊎◌, inl, inr, ◌≤◌, Bool, true, false, ◌&&◌, ◌||◌, List, [], ◌∷◌, Option, Some, None, length, slice_get, refl, sym, ◌∙◌, ap, subst, arith}
-use Rattle.std.specs.Prelude.{codes, IsTrue}
-use Rattle.std.specs.List.{list_any}
+use Rattle.std.proofs.Common.{ℕ, ◌≡◌, ◌≢◌, ◌≤◌, Bool, true, false, ◌&&◌, ◌||◌, List, [], ◌∷◌, Some, length, refl, sym, ◌∙◌, ap, arith}
+use Rattle.std.specs.Prelude.{codes}
 use Rattle.std.specs.Str.{bytes_eq}
 use Rattle.std.proofs.lemmas.Slice.Eq.{bytes_eq-Decides}
-use Rattle.wave_words.specs.declared.slot.Slot.{Slot}
 use Rattle.wave_words.specs.declared.slot.Slot.TheVariants as slots
 use Rattle.wave_words.specs.declared.form.Form.{Form}
 use Rattle.wave_words.specs.declared.form.Form.TheVariants as forms
-use Rattle.wave_words.specs.Forms.{fits, has_form, is_whole}
+use Rattle.wave_words.specs.Forms.{fits, has_form}
 use Rattle.wave_words.specs.Words.{IsCommand}
-use Rattle.wave_main.specs.Commands.{Begins, IsRun, IsShow, all_forms, unbuilt, quiet_unbuilt}
+use Rattle.wave_main.specs.Commands.{Begins, IsRun, IsShow, all_forms, unbuilt}
 
 abbrev first_word : Form → List ℕ
 first_word forms.Run = codes "run"

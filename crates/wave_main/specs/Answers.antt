@@ -3,7 +3,7 @@ use Rattle.std.specs.Prelude.{◌≡◌, ◌≢◌, ◌⊎◌, ◌↔◌, ℕ, L
 use Rattle.wave_io.specs.Faults.{Rose}
 use Rattle.wave_io.specs.Written.{grown, TookPart}
 use Rattle.wave_main.specs.declared.status.Status.{Status}
-use Rattle.wave_main.specs.declared.status.Status.TheVariants.{Done, Usage, ReadFault, LoopText, LoopName, LoopLimit, MatrixText, Shape, NotBuilt, WriteFault, Memory}
+use Rattle.wave_main.specs.declared.status.Status.TheVariants.{Done, ReadFault, WriteFault, Memory}
 use Rattle.wave_main.specs.Commands.{IsFilePlace, Prints, Refuses}
 use Rattle.wave_main.specs.Files.{MayBe, word_of}
 use Rattle.wave_main.specs.Status.{fault_line}
@@ -49,7 +49,7 @@ IsRefusal WriteFault = ⊥
 IsRefusal Memory = ⊥
 IsRefusal _ = Unit {0}
 
--- neither want of memory nor a fault of reading, to which each refusal yields
+-- neither out of memory nor a fault of reading, to which each refusal yields
 abbrev pub IsSettled : Status → Type 0
 IsSettled Memory = ⊥
 IsSettled (ReadFault word) = ⊥

@@ -1,5 +1,5 @@
 -- What the commands print and refuse.
-use Rattle.std.specs.Prelude.{◌≡◌, ◌⊎◌, ℕ, ◌<◌, ◌≤◌, List, [], ◌∷◌, IsTrue, length, Option, Some, slice_get, codes}
+use Rattle.std.specs.Prelude.{◌≡◌, ◌⊎◌, ℕ, ◌<◌, ◌≤◌, List, [], ◌∷◌, IsTrue, length, Some, slice_get, codes}
 use Rattle.loop_core.specs.declared.nest.Nest.{Nest}
 use Rattle.loop_print.specs.PrintText.{nest_text}
 use Rattle.wave_words.specs.declared.form.Form.{Form}
@@ -9,7 +9,7 @@ use Rattle.wave_words.specs.Words.{IsCommand, IsUsageAt}
 use Rattle.wave_main.specs.declared.words.Command.{Command}
 use Rattle.wave_main.specs.declared.words.Command.TheVariants as commands
 use Rattle.wave_main.specs.declared.status.Status.{Status}
-use Rattle.wave_main.specs.declared.status.Status.TheVariants.{Done, Usage, ReadFault, LoopText, LoopName, LoopLimit, MatrixText, Shape, NotBuilt, WriteFault, Memory}
+use Rattle.wave_main.specs.declared.status.Status.TheVariants.{Usage, NotBuilt}
 use Rattle.wave_main.specs.Files.{word_of}
 use Rattle.wave_main.specs.Loops.{IsLoop, loop_fault}
 use Rattle.wave_main.specs.Run.{RunPrints, run_fault, vector_files}

@@ -8,3 +8,4 @@ pub mod Matrices
 pub mod Run
 pub mod Commands
 pub mod Answers
+pub mod Calls

@@ -1,5 +1,5 @@
 -- The loop of a file.
-use Rattle.std.specs.Prelude.{◌≡◌, ℕ, ◌≤◌, List, if◌then◌else◌, nat_lt, length, Option, Some, None}
+use Rattle.std.specs.Prelude.{◌≡◌, ℕ, List, if◌then◌else◌, nat_lt, length, Option, Some, None}
 use Rattle.std.specs.Option.{option_map}
 use Rattle.text_base.specs.Lines.{lines}
 use Rattle.loop_core.specs.declared.nest.Nest.{Nest}

@@ -1,10 +1,9 @@
 -- The matrix and the vectors of files.
-use Rattle.std.specs.Prelude.{◌≡◌, ℕ, ◌+◌, ℤ, List, [], ◌∷◌, map, Option, Some, None, Result, Ok, Err}
+use Rattle.std.specs.Prelude.{ℕ, ◌+◌, ℤ, List, [], ◌∷◌, map, Option, Some, None, Result, Ok, Err}
 use Rattle.csr_arrays.specs.Axes.{Triple}
 use Rattle.mtx_read.specs.Files.{matrix, vector}
 use Rattle.mtx_read.specs.declared.refusal.MtxRefusal.{MtxRefusal}
 use Rattle.mtx_read.specs.declared.refusal.MtxRefusal.TheVariants as refusals
-use Rattle.wave_main.specs.declared.status.MtxFault.{MtxFault}
 use Rattle.wave_main.specs.declared.status.MtxFault.TheVariants as faults
 use Rattle.wave_main.specs.declared.status.Status.{Status}
 use Rattle.wave_main.specs.declared.status.Status.TheVariants.{MatrixText, Memory}

@@ -1,7 +1,7 @@
 -- The texts of words of a line.
-use Rattle.std.specs.Prelude.{ℕ, List, map, decimal}
-use Rattle.wave_main.specs.declared.report.Piece.{Piece}
-use Rattle.wave_main.specs.declared.report.Piece.TheVariants.{Text, Number}
+use Rattle.std.specs.Prelude.{ℕ, ◌≤◌, List, length, map, decimal}
+use Rattle.wave_main.specs.declared.line.Piece.{Piece}
+use Rattle.wave_main.specs.declared.line.Piece.TheVariants.{Text, Number}
 
 abbrev pub piece_text : Piece → List ℕ
 piece_text (Text text) = text.now
@@ -9,3 +9,8 @@ piece_text (Number number) = decimal number
 
 abbrev pub texts_of : List Piece → List (List ℕ)
 texts_of pieces = map piece_text pieces
+
+-- a number of 64 bits has at most twenty digits
+abbrev pub IsShort : Piece → Type 0
+IsShort (Text text) = length text.now ≤ 20
+IsShort (Number number) = Unit {0}

@@ -1,5 +1,5 @@
 -- A run: its input, and why its files are refused.
-use Rattle.std.specs.Prelude.{◌≡◌, ℕ, ◌+◌, ℤ, List, drop, Option, Some, None}
+use Rattle.std.specs.Prelude.{◌≡◌, ℕ, ◌+◌, ℤ, List, drop, Option, None}
 use Rattle.std.specs.Option.{option_map}
 use Rattle.text_base.specs.Lines.{lines}
 use Rattle.loop_core.specs.declared.decl.Decl.{Decl}

@@ -32,14 +32,14 @@ code_of (NotBuilt word) = 13
 abbrev pub line : List ℕ → List ℕ
 line text = text ++ 10 ∷ []
 
--- a space stands behind each word but the last, and the line's end behind that
-abbrev pub behind : List (List ℕ) → List ℕ
-behind [] = 10 ∷ []
-behind (word ∷ words) = 32 ∷ []
+-- a space stands after each word but the last, and the line's end after that
+abbrev pub after_word : List (List ℕ) → List ℕ
+after_word [] = 10 ∷ []
+after_word (word ∷ words) = 32 ∷ []
 
 abbrev pub spaced : List (List ℕ) → List ℕ
 spaced [] = []
-spaced (word ∷ words) = (word ++ behind words) ++ spaced words
+spaced (word ∷ words) = (word ++ after_word words) ++ spaced words
 
 abbrev pub name_word : NameKind → List ℕ
 name_word Unknown = codes "unknown"

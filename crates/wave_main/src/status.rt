@@ -20,7 +20,7 @@ pub enum MtxFault {
     Entry { line: u32, kind: EntryKind },
     /// Fewer entry lines than announced.
     Short { have: u64, want: u64 },
-    /// A line behind the announced entries.
+    /// A line after the announced entries.
     Extra { line: u32 },
     /// The file, or a number of its size line, passes a limit.
     Big { what: BigKind, value: u64 },
@@ -60,7 +60,7 @@ pub enum Status {
     NotBuilt { word: u32 },
     /// The text couldn't be put whole.
     WriteFault,
-    /// Memory was wanting.
+    /// Out of memory.
     Memory,
 }
 

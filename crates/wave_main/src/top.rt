@@ -1,9 +1,10 @@
 // The top calls.
-ghost use Rattle.std.specs.Prelude.{◌<◌, ◌^◌, ◌≡◌, ◌↔◌, ◌⊎◌, List, ℕ, length, IsTrue, OnOk, IfErr};
+ghost use Rattle.std.specs.Prelude.{◌<◌, ◌^◌, ◌≡◌, ◌↔◌, length, IsTrue, OnOk, IfErr};
 ghost use Rattle.wave_io.specs.Faults.{Rose};
 ghost use Rattle.wave_io.specs.Written.{grown, TookPart};
 ghost use Rattle.wave_words.specs.Words.{texts};
-ghost use Rattle.wave_main.specs.Answers.{AreFilesOf, Ends, IsAnswer, SaysWhy, status_of};
+ghost use Rattle.wave_main.specs.Answers.{SaysWhy, status_of};
+ghost use Rattle.wave_main.specs.Calls.{changed, HasAnswered, HasEnded};
 ghost use Rattle.wave_main.specs.Commands.{IsBuiltRun, IsShow, Begins, IsOthers};
 
 use crate::fetch::{fetch_loop, fetch_run};
@@ -40,15 +41,7 @@ fn try_run<L: Library, O: Sink>(
 ) -> Result<(), Status>
     requires built { IsBuiltRun (texts words.now) }
     requires few { length words.now < 2 ^ 32 }
-    ensures { (files : List (List ℕ)) × AreFilesOf (L.held lib.old) (texts words.now) files
-        × Ends (texts words.now) files (record {
-          reads_before = L.faults lib.old;
-          reads_after = L.faults lib.new;
-          before = O.written out.old;
-          after = O.written out.new;
-          faults_before = O.faults out.old;
-          faults_after = O.faults out.new;
-        }) (status_of result) }
+    ensures { HasEnded (L.held lib.old) (texts words.now) (changed (L.faults lib.old) (L.faults lib.new) (O.written out.old) (O.written out.new) (O.faults out.old) (O.faults out.new)) (status_of result) }
 {
     let files = fetch_run(alloc, lib, words)?;
     let text = run_text(alloc, files)?;
@@ -63,15 +56,7 @@ fn try_show<L: Library, O: Sink>(
     out: &mut O,
 ) -> Result<(), Status>
     requires built { IsShow (texts words.now) }
-    ensures { (files : List (List ℕ)) × AreFilesOf (L.held lib.old) (texts words.now) files
-        × Ends (texts words.now) files (record {
-          reads_before = L.faults lib.old;
-          reads_after = L.faults lib.new;
-          before = O.written out.old;
-          after = O.written out.new;
-          faults_before = O.faults out.old;
-          faults_after = O.faults out.new;
-        }) (status_of result) }
+    ensures { HasEnded (L.held lib.old) (texts words.now) (changed (L.faults lib.old) (L.faults lib.new) (O.written out.old) (O.written out.new) (O.faults out.old) (O.faults out.new)) (status_of result) }
 {
     let file = fetch_loop(alloc, lib, words)?;
     let text = show_text(alloc, file)?;
@@ -86,15 +71,7 @@ fn try_command<L: Library, O: Sink>(
     out: &mut O,
 ) -> Result<(), Status>
     requires few { length words.now < 2 ^ 32 }
-    ensures { (files : List (List ℕ)) × AreFilesOf (L.held lib.old) (texts words.now) files
-        × Ends (texts words.now) files (record {
-          reads_before = L.faults lib.old;
-          reads_after = L.faults lib.new;
-          before = O.written out.old;
-          after = O.written out.new;
-          faults_before = O.faults out.old;
-          faults_after = O.faults out.new;
-        }) (status_of result) }
+    ensures { HasEnded (L.held lib.old) (texts words.now) (changed (L.faults lib.old) (L.faults lib.new) (O.written out.old) (O.written out.new) (O.faults out.old) (O.faults out.new)) (status_of result) }
 {
     match built_command(words)? {
         Command::Run => try_run(alloc, words, lib, out),
@@ -129,19 +106,7 @@ fn serve<L: Library, O: Sink, E: Sink>(
     err: &mut E,
 ) -> Status
     requires { length words.now < 2 ^ 32 }
-    ensures answer { IsAnswer (record {
-      words = texts words.now;
-      held = L.held lib.old;
-      changes = record {
-        reads_before = L.faults lib.old;
-        reads_after = L.faults lib.new;
-        before = O.written out.old;
-        after = O.written out.new;
-        faults_before = O.faults out.old;
-        faults_after = O.faults out.new;
-      };
-      status = result;
-    }) }
+    ensures answer { HasAnswered (L.held lib.old) (texts words.now) (changed (L.faults lib.old) (L.faults lib.new) (O.written out.old) (O.written out.new) (O.faults out.old) (O.faults out.new)) result }
     ensures says { SaysWhy result (E.written err.old) (E.written err.new) (E.faults err.old) (E.faults err.new) }
     ensures silent { result ≡ Status.Done → E.written err.new ≡ E.written err.old }
 {
@@ -161,19 +126,7 @@ pub fn quiet_main<R: AllocGlobal + Threads, L: Library, O: Sink, E: Sink>(
 ) -> Status
     requires { length words.now < 2 ^ 32 }
     ensures others { IsOthers (texts words.now) → (result ≡ Status.Usage 0) × (lib.new ≡ lib.old) × (out.new ≡ out.old) }
-    ensures answer { ¬ IsOthers (texts words.now) → IsAnswer (record {
-      words = texts words.now;
-      held = L.held lib.old;
-      changes = record {
-        reads_before = L.faults lib.old;
-        reads_after = L.faults lib.new;
-        before = O.written out.old;
-        after = O.written out.new;
-        faults_before = O.faults out.old;
-        faults_after = O.faults out.new;
-      };
-      status = result;
-    }) }
+    ensures answer { ¬ IsOthers (texts words.now) → HasAnswered (L.held lib.old) (texts words.now) (changed (L.faults lib.old) (L.faults lib.new) (O.written out.old) (O.written out.new) (O.faults out.old) (O.faults out.new)) result }
     ensures says { SaysWhy result (E.written err.old) (E.written err.new) (E.faults err.old) (E.faults err.new) }
     ensures silent { result ≡ Status.Done → E.written err.new ≡ E.written err.old }
 {
@@ -195,19 +148,7 @@ pub fn wave_main<R: AllocGlobal + Threads + Wait, L: Library, O: Sink, E: Sink, 
     _gate: &G,
 ) -> Status
     requires { length words.now < 2 ^ 32 }
-    ensures answer { IsAnswer (record {
-      words = texts words.now;
-      held = L.held lib.old;
-      changes = record {
-        reads_before = L.faults lib.old;
-        reads_after = L.faults lib.new;
-        before = O.written out.old;
-        after = O.written out.new;
-        faults_before = O.faults out.old;
-        faults_after = O.faults out.new;
-      };
-      status = result;
-    }) }
+    ensures answer { HasAnswered (L.held lib.old) (texts words.now) (changed (L.faults lib.old) (L.faults lib.new) (O.written out.old) (O.written out.new) (O.faults out.old) (O.faults out.new)) result }
     ensures says { SaysWhy result (E.written err.old) (E.written err.new) (E.faults err.old) (E.faults err.new) }
     ensures silent { result ≡ Status.Done → E.written err.new ≡ E.written err.old }
 {

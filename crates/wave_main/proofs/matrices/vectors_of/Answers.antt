@@ -1,4 +1,4 @@
-use Rattle.std.proofs.Common.{arith, sym, ap, ◌∙◌}
+use Rattle.std.proofs.Common.{arith}
 use Rattle.wave_main.proofs.FileLaws.{match_err}
 use Rattle.wave_main.proofs.MatrixLaws.{fetched_here, refused_here, goes_on, more_vectors, none_left}
 use Rattle.wave_main.proofs.matrices.vectors_of.Goals as goal

@@ -1,5 +1,3 @@
-use Rattle.std.proofs.Common.{ap, ◌∙◌}
-use Rattle.loop_core.specs.Lists.{Lists}
 use Rattle.wave_main.proofs.RunLaws.{printed}
 use Rattle.wave_main.proofs.run.run_text.Goals as goal
 

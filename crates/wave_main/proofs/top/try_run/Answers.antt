@@ -1,4 +1,4 @@
-use Rattle.std.proofs.Common.{◌≡◌, [], ◌∷◌, ℕ, List, inl, refl, ◌∙◌, subst, sym, arith}
+use Rattle.std.proofs.Common.{ℕ, List, inl, refl, subst, sym, arith}
 use Rattle.wave_words.specs.Words.{texts}
 use Rattle.wave_main.specs.Answers.{Changes}
 use Rattle.wave_main.specs.Files.{word_of}

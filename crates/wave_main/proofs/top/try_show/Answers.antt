@@ -1,4 +1,4 @@
-use Rattle.std.proofs.Common.{◌≡◌, [], ◌∷◌, inr, refl, ◌∙◌}
+use Rattle.std.proofs.Common.{[], ◌∷◌, inr, refl, ◌∙◌}
 use Rattle.wave_words.specs.Words.{texts}
 use Rattle.wave_main.specs.Answers.{Changes}
 use Rattle.wave_main.proofs.EndLaws.{show_fetch_end, show_refused_end, put_ends, handed_on, ends_with}
