@@ -5,10 +5,10 @@ usage: tools/faults.py            writes them
        tools/faults.py --check    prints the pages that differ from the table; status 1 if any does
 
 The table has six columns, separated by tabs: the status; the fault line, with a capital letter for each
-number; where the row holds, in words; the same as a pattern (an extended regular expression, or >N for a
-line of more than N bytes); the cause; the remedy. Of several rows for a line the first whose pattern
-fits what is quoted holds, and one without a pattern always does. `wave --help` and the launcher's
-explanations read the table itself.
+number; where the row holds, in words; the same as a pattern; the cause; the remedy. A pattern is an
+extended regular expression in which \\NNN is a byte in octal, or >N for a line of more than N bytes. Of
+several rows for a fault line the first whose pattern fits the quoted line holds; one without a pattern
+always does. `wave --help` and the launcher's explanations read the table itself.
 """
 import os
 import re
