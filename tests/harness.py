@@ -53,7 +53,7 @@ def call(words, stdin=b"", folder=None, **variables):
     environment = {name: value for name, value in os.environ.items() if name not in ("WAVE_HINT", "WAVE_PROGRAM", "NO_COLOR")}
     environment.update(variables)
     done = subprocess.run(words, input=stdin, capture_output=True, cwd=folder, env=environment, check=False)
-    return done.returncode, done.stdout.decode(), done.stderr.decode()
+    return done.returncode, done.stdout.decode(errors="replace"), done.stderr.decode(errors="replace")
 
 
 def written(folder, name, text, encoding="utf-8"):
