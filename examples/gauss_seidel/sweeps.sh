@@ -1,0 +1,31 @@
+#!/bin/sh
+# Does many Gauss-Seidel sweeps: each starts from what the one before has printed.
+#
+# usage: examples/gauss_seidel/sweeps.sh NUMBER MATRIX RIGHT_SIDE START
+# It prints the last answer. WAVE names the command, if it isn't the one of this repository.
+set -u
+
+here=$(CDPATH='' cd -- "$(dirname -- "$0")" && pwd -P) || exit 1
+if [ $# -ne 4 ]; then
+    sed -n 's/^# usage/usage/p' "$0" >&2
+    exit 2
+fi
+wave=${WAVE:-$here/../../wave}
+scratch=${TMPDIR:-/tmp}/wave-sweeps.$$
+mkdir "$scratch" || exit 1
+trap 'rm -rf "$scratch"' EXIT
+cp "$4" "$scratch/start" || exit 1
+
+# vector: the printed array on standard input as a vector file
+vector() {
+    echo '%%MatrixMarket matrix array integer general'
+    sed '1s/^array x \(.*\)$/\1 1/'
+}
+
+sweep=0
+while [ "$sweep" -lt "$1" ]; do
+    "$wave" run "$here/sweep.loop" "$2" 1 "$3" "$scratch/start" >"$scratch/answer" || exit
+    vector <"$scratch/answer" >"$scratch/start"
+    sweep=$((sweep + 1))
+done
+[ ! -f "$scratch/answer" ] || cat "$scratch/answer"
