@@ -1,17 +1,5 @@
-pub mod Atoms
 pub mod Closes
-pub mod Count
-pub mod Edges
-pub mod Emits
-pub mod Grids
 pub mod Grow
-pub mod Improve
-pub mod Named
 pub mod Orders
 pub mod Passing
-pub mod Prefix
-pub mod Sets
 pub mod Takes
-pub mod Tight
-pub mod Traced
-pub mod Visits

@@ -8,8 +8,9 @@ use Rattle.index_props.specs.declared.rule.RuleInst.{RuleInst}
 use Rattle.index_props.specs.Derivable.{Derivable, IsContradictory}
 use Rattle.index_props.specs.Derivable.Derivable.{given, same, joined, weaker, fired}
 use Rattle.bound_close.specs.Closure.{Found, IsClosure, IsLeast, IsBound, AreSame}
-use Rattle.bound_close.specs.Plain.{Saturated, IsSaturation}
-use Rattle.bound_close.proofs.Closes.{refuted-is, test_is}
+use Rattle.bound_plain.specs.Plain.{Saturated, IsSaturation}
+use Rattle.bound_ways.proofs.Exactly.{test_is}
+use Rattle.bound_close.proofs.Closes.{refuted-is}
 
 pub wider : {u : List Atom} {rules : List RuleInst} (base more : List Diff) → ((d : Diff) → Contains base d → Contains more d) → {a b : Atom} {c : ℤ} → Derivable u base rules a b c → Derivable u more rules a b c
 wider base more s (given d h) = given d (s d h)

@@ -9,16 +9,16 @@ use Rattle.loop_core.specs.declared.nest.Atom.{Atom}
 use Rattle.uf_constraints.specs.declared.system.Diff.{Diff}
 use Rattle.index_props.specs.declared.rule.RuleInst.{RuleInst}
 use Rattle.std.specs.Int.Signed.{◌<ℤ◌}
-use Rattle.bound_close.specs.declared.between.Between.{Between}
-use Rattle.bound_close.specs.declared.waiting.Waiting.{Waiting}
+use Rattle.bound_table.specs.declared.between.Between.{Between}
+use Rattle.bound_table.specs.declared.waiting.Waiting.{Waiting}
 use Rattle.bound_close.specs.declared.workings.Workings.{Workings}
-use Rattle.bound_close.specs.Exact.{bound_of, Holds, Fails, IsLower, Settled}
-use Rattle.bound_close.specs.Over.{AreRulesOver}
+use Rattle.bound_ways.specs.Exact.{bound_of, Holds, Fails, IsLower, Settled}
+use Rattle.bound_ways.specs.Over.{AreRulesOver}
 use Rattle.bound_close.specs.Passes.{Forward, Stopped, IsWatched, Watches, IsWaiting, ResultsHold, PremiseFails, Stays, Fires, Waits, Passed, AllSettled}
 use Rattle.bound_close.specs.Workings.{bounds, IsFine}
-use Rattle.bound_close.specs.Places.{place_in}
-use Rattle.bound_close.proofs.Grow.{Holds-lower}
-use Rattle.bound_close.proofs.Takes.{got, got-is, contains-got, over-take, Holds-none, forward-same, forward-trans, stopped-trans}
+use Rattle.bound_ways.specs.Places.{place_in}
+use Rattle.bound_ways.proofs.Bounding.{Holds-lower, got, got-is, contains-got, over-take, Holds-none}
+use Rattle.bound_close.proofs.Takes.{forward-same, forward-trans, stopped-trans}
 
 pub results-lower : (u : List Atom) (rules : List RuleInst) (mid new : Workings) (k : ℕ) → AreRulesOver u rules → IsLower (length u) (bounds mid) (bounds new) → ResultsHold u rules mid k → ResultsHold u rules new k
 results-lower u rules mid new k over l h r g = Holds-lower u (bounds mid) (bounds new) r.results l (over r (contains-got rules k r g)).results (h r g)

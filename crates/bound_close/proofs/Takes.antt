@@ -1,64 +1,22 @@
 -- A base and the results of an instance, taken in one after another.
-use Rattle.std.proofs.Common.{ap, take, drop, ℕ, ℤ, zero, suc, ◌<◌, ◌+◌, ◌≡◌, inl, inr, arith, List, [], ◌∷◌, ◌++◌, length, slice_index_or, slice_get, subst, sym, ◌∙◌, Some, true}
-use Rattle.std.specs.Prelude.{◌≤ℤ◌, Result, Ok, Err, IfOk}
-use Rattle.std.specs.List.{Contains}
-use Rattle.std.proofs.lemmas.Int.{ints}
-use Rattle.std.proofs.lemmas.List.{take_more, take-append-drop}
-use Rattle.std.proofs.lemmas.List.Elements.{Contains-push_cases, Contains-append_left}
-use Rattle.std.proofs.lemmas.Option.{slice_get_within, get_or_from_slice_get}
+use Rattle.std.proofs.Common.{ap, take, ℕ, ◌<◌, ◌+◌, ◌≡◌, List, ◌++◌, length, slice_index_or, slice_get, subst, sym, ◌∙◌, Some, true}
 use Rattle.std.proofs.Math.Seq.{take-length}
 use Rattle.loop_core.specs.declared.nest.Atom.{Atom}
 use Rattle.uf_constraints.specs.declared.system.Diff.{Diff}
 use Rattle.index_props.specs.declared.rule.RuleInst.{RuleInst}
 use Rattle.index_props.specs.declared.certificate.Step.TheVariants.{Base, Rule}
 use Rattle.index_props.specs.Derivable.{Derivable}
-use Rattle.index_props.specs.Derivable.Derivable.{given, weaker, fired}
+use Rattle.index_props.specs.Derivable.Derivable.{given, fired}
 use Rattle.index_props.specs.Certificate.{conclusion, named}
 use Rattle.bound_close.specs.declared.workings.Workings.{Workings}
-use Rattle.bound_close.specs.Exact.{bound_of, Holds, IsSound}
-use Rattle.bound_close.specs.Log.{Naming}
-use Rattle.bound_close.specs.Over.{IsOver, AreOver, IsRuleOver}
+use Rattle.bound_ways.specs.Exact.{Holds}
+use Rattle.bound_ways.specs.Log.{Naming}
+use Rattle.bound_ways.specs.Over.{AreOver, IsRuleOver}
 use Rattle.bound_close.specs.Passes.{Taken, Ready, Applied, Forward, Stopped}
-use Rattle.bound_close.specs.Places.{place_in, atom_at}
 use Rattle.bound_close.specs.Workings.{bounds, IsFine, Kept, Halted, Grown, Clashes, Refuted}
-use Rattle.bound_close.proofs.Atoms.{place-in, place-is}
-use Rattle.bound_close.proofs.Emits.{edges-left}
-use Rattle.bound_close.proofs.Grow.{lower-refl, lower-trans, Holds-lower}
-use Rattle.bound_close.proofs.Named.{named-left}
-
-pub got : {X : Type 0} (xs : List X) (i : ℕ) (d : X) → i < length xs → d ≡ slice_index_or xs i d → slice_get xs i ≡ Some d
-got [] i d l e = absurd (omega arith)
-got (x ∷ xs) zero d l e = ap Some (sym e)
-got (x ∷ xs) (suc i) d l e = got xs i d (omega arith) e
-
-pub got-is : {X : Type 0} (xs : List X) (i : ℕ) (d r : X) → d ≡ slice_index_or xs i d → slice_get xs i ≡ Some r → d ≡ r
-got-is xs i d r e h = e ∙ get_or_from_slice_get xs i r d h
-
-pub contains-got : {X : Type 0} (xs : List X) (k : ℕ) (x : X) → slice_get xs k ≡ Some x → Contains xs x
-contains-got xs k x h = (k, slice_get_within xs k x h, get_or_from_slice_get xs k x x h)
-
-pub Contains-take : {X : Type 0} (xs : List X) (i : ℕ) (x : X) → Contains (take i xs) x → Contains xs x
-Contains-take xs i x h = subst (λ l. Contains l x) (take-append-drop i xs) (Contains-append_left (take i xs) (drop i xs) x h)
-
-pub over-take : (u : List Atom) (ds : List Diff) (i : ℕ) → AreOver u ds → AreOver u (take i ds)
-over-take u ds i o d h = o d (Contains-take ds i d h)
-
-pub Holds-more : (u : List Atom) (T : ℕ → ℕ → ℤ) (ds : List Diff) (i : ℕ) (e : Diff) → i < length ds → Holds u T (take i ds) → bound_of u T e ≤ℤ e.c → e ≡ slice_index_or ds i e → Holds u T (take (i + 1) ds)
-Holds-more u T ds i e lt h x is d p =
-    elim (Contains-push_cases (take i ds) (slice_index_or ds i e) d (subst (λ (l : List Diff). Contains l d) (take_more ds i e lt) p)) [
-      | inl q ↦ h d q
-      | inr q ↦ subst (λ (d : Diff). bound_of u T d ≤ℤ d.c) (is ∙ q) x
-    ]
-
-pub Holds-all : (u : List Atom) (T : ℕ → ℕ → ℤ) (ds : List Diff) (i : ℕ) → i ≡ length ds → Holds u T (take i ds) → Holds u T ds
-Holds-all u T ds i e h = subst (λ (l : List Diff). Holds u T l) (ap (λ (n : ℕ). take n ds) e ∙ take-length ds) h
-
-pub Holds-none : (u : List Atom) (T : ℕ → ℕ → ℤ) (ds : List Diff) → Holds u T (take 0 ds)
-Holds-none u T ds d h = absurd (let l = h.1 in omega arith)
-
-pub if-ok-map : {X E : Type 0} (r : Result X E) (P R : X → Type 0) → IfOk r P → ((x : X) → P x → R x) → IfOk r R
-if-ok-map (Ok x) P R p f = f x p
-if-ok-map (Err e) P R p f = tt
+use Rattle.bound_ways.proofs.Emits.{edges-left}
+use Rattle.bound_ways.proofs.Bounding.{lower-refl, lower-trans, Holds-lower, got, contains-got, over-take, Holds-more, premise-derivable}
+use Rattle.bound_ways.proofs.Named.{named-left}
 
 -- a base
 module _ (u : List Atom) (base : List Diff) (over : AreOver u base) (old mid new : Workings) (i : ℕ) (d : Diff) (lt : i < length base) (is : d ≡ slice_index_or base i d) where
@@ -121,15 +79,6 @@ module _ (u : List Atom) (rules : List RuleInst) (rule : ℕ) (r : RuleInst) (pl
 pub applied-all : (u : List Atom) (rules : List RuleInst) (r : RuleInst) (places : List ℕ) (rs : List Diff) (old new : Workings) (i : ℕ) → rs ≡ r.results → i ≡ length rs → Applied u rules r places (take i rs) old new → Applied u rules r places r.results old new
 applied-all u rules r places rs old new i same e a =
     subst (λ (l : List Diff). Applied u rules r places l old new) (ap (λ (n : ℕ). take n rs) e ∙ take-length rs ∙ same) a
-
-pub premise-derivable : (u : List Atom) (base : List Diff) (rules : List RuleInst) (T : ℕ → ℕ → ℤ) (p : Diff) → IsOver u p → bound_of u T p ≤ℤ p.c → IsSound u base rules T → Derivable u base rules p.a p.b p.c
-premise-derivable u base rules T p o h s =
-    let w = o.small in
-    let la = place-in u p.a o.left in
-    let lb = place-in u p.b o.right in
-    let d : Derivable u base rules (atom_at u (place_in u p.a)) (atom_at u (place_in u p.b)) (T (place_in u p.a) (place_in u p.b)) = s (place_in u p.a) (place_in u p.b) la lb (omega (arith, ints)) in
-    let e : Derivable u base rules p.a p.b (T (place_in u p.a) (place_in u p.b)) = subst (λ (a : Atom). Derivable u base rules a p.b (T (place_in u p.a) (place_in u p.b))) (place-is u p.a la) (subst (λ (b : Atom). Derivable u base rules (atom_at u (place_in u p.a)) b (T (place_in u p.a) (place_in u p.b))) (place-is u p.b lb) d) in
-    weaker p.a p.b (T (place_in u p.a) (place_in u p.b)) p.c e h
 
 module _ (u : List Atom) (rules : List RuleInst) (r : RuleInst) (places : List ℕ) (old mid new : Workings) (over : IsRuleOver u r) (holds : Holds u (bounds old) r.premises) (table : mid.table ≡ old.table) (n : Naming u old.table.edges.items old.steps mid.steps r.premises places) where
   ready-first : (base : List Diff) → Kept u base rules old → Ready u base rules mid r places

@@ -2,10 +2,10 @@
 use Rattle.std.specs.Prelude.{◌<◌, ◌≡◌, false, length}
 use Rattle.std.specs.Int.Signed.{◌<ℤ◌}
 use Rattle.loop_core.specs.declared.nest.Atom.{Atom}
-use Rattle.bound_close.specs.declared.between.Between.{Between}
+use Rattle.bound_table.specs.declared.between.Between.{Between}
 use Rattle.bound_close.specs.Closure.{Found}
-use Rattle.bound_close.specs.Places.{place_in}
-use Rattle.bound_close.specs.Rows.{far}
+use Rattle.bound_ways.specs.Places.{place_in}
+use Rattle.bound_table.specs.Rows.{far}
 use Rattle.bound_close.specs.Workings.{bounds}
 
 pub record IsBetween (k : Found) (a b : Atom) (p : Between) : Type 0 where

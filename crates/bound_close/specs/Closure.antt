@@ -1,15 +1,15 @@
 -- What a closure answers.
-use Rattle.std.specs.Prelude.{ℤ, negsuc, ◌≤ℤ◌, ◌≡◌, Bool, true, false, List, [], Option, Ok, MatchOption}
+use Rattle.std.specs.Prelude.{ℤ, negsuc, ◌≡◌, Bool, true, false, List, [], Ok}
 use Rattle.std.specs.List.{Contains}
 use Rattle.loop_core.specs.declared.nest.Atom.{Atom}
 use Rattle.uf_constraints.specs.declared.system.Diff.{Diff}
 use Rattle.index_props.specs.declared.rule.RuleInst.{RuleInst}
 use Rattle.index_props.specs.declared.certificate.Step.{Step}
-use Rattle.index_props.specs.Derivable.{Derivable}
 use Rattle.index_props.specs.Certificate.{outcome}
 use Rattle.bound_close.specs.declared.workings.Workings.{Workings}
-use Rattle.bound_close.specs.Exact.{IsExact}
-use Rattle.bound_close.specs.Log.{Logged}
+use Rattle.bound_ways.specs.Exact.{IsExact}
+pub use Rattle.bound_ways.specs.Exact.{IsLeast, IsBound}
+use Rattle.bound_ways.specs.Log.{Logged}
 use Rattle.bound_close.specs.Workings.{bounds, IsFine, Refuted}
 
 -- what contracts see of a closure: its universe, what it keeps, and whether it is contradictory
@@ -28,15 +28,6 @@ pub record Closed (u : List Atom) (base : List Diff) (rules : List RuleInst) (w 
 pub record IsClosure (k : Found) (base : List Diff) (rules : List RuleInst) : Type 0 where
   pub found : k.refuted ≡ false → Closed k.atoms base rules k.workings
   pub refuted : k.refuted ≡ true → Refuted k.atoms base rules k.workings.steps
-
--- the least bound that is derivable
-pub record IsLeast (u : List Atom) (base : List Diff) (rules : List RuleInst) (a b : Atom) (c : ℤ) : Type 0 where
-  pub derivable : Derivable u base rules a b c
-  pub least : (e : ℤ) → Derivable u base rules a b e → c ≤ℤ e
-
--- the least bound, and none exactly where none is derivable
-abbrev pub IsBound : List Atom → List Diff → List RuleInst → Atom → Atom → Option ℤ → Type 0
-IsBound u base rules a b answer = MatchOption answer ((c : ℤ) → Derivable u base rules a b c → ⊥) (IsLeast u base rules a b)
 
 -- the steps pass the check, and the last one gives the constraint
 abbrev pub Shows : List Atom → List Diff → List RuleInst → List Step → Atom → Atom → ℤ → Type 0

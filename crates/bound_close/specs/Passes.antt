@@ -7,12 +7,12 @@ use Rattle.uf_constraints.specs.declared.system.Diff.{Diff}
 use Rattle.index_props.specs.declared.rule.RuleInst.{RuleInst}
 use Rattle.index_props.specs.Derivable.{Derivable}
 use Rattle.index_props.specs.Certificate.{named}
-use Rattle.bound_close.specs.declared.between.Between.{Between}
-use Rattle.bound_close.specs.declared.waiting.Waiting.{Waiting}
+use Rattle.bound_table.specs.declared.between.Between.{Between}
+use Rattle.bound_table.specs.declared.waiting.Waiting.{Waiting}
 use Rattle.bound_close.specs.declared.workings.Workings.{Workings}
-use Rattle.bound_close.specs.Exact.{Holds, Fails, IsLower, IsSound, Settled}
-use Rattle.bound_close.specs.Log.{IsLog, EdgesIn}
-use Rattle.bound_close.specs.Places.{place_in}
+use Rattle.bound_ways.specs.Exact.{Holds, Fails, IsLower, IsSound, Settled}
+use Rattle.bound_ways.specs.Log.{IsLog, EdgesIn}
+use Rattle.bound_ways.specs.Places.{place_in}
 use Rattle.bound_close.specs.Workings.{bounds, IsFine, Onward, Halted}
 
 -- these constraints of the base were taken in

@@ -7,10 +7,10 @@ use Rattle.index_props.specs.declared.certificate.Step.{Step}
 use Rattle.index_props.specs.Derivable.{Derivable, IsContradictory}
 use Rattle.index_props.specs.Certificate.{conclusion}
 use Rattle.bound_close.specs.declared.workings.Workings.{Workings}
-use Rattle.bound_close.specs.Exact.{IsSound, IsLower, bound_of}
-use Rattle.bound_close.specs.Log.{IsLog, EdgesIn, Logged, Refutes}
-use Rattle.bound_close.specs.Marks.{IsTraced}
-use Rattle.bound_close.specs.Rows.{entry}
+use Rattle.bound_ways.specs.Exact.{IsSound, IsLower, bound_of}
+use Rattle.bound_ways.specs.Log.{IsLog, EdgesIn, Logged, Refutes}
+use Rattle.bound_table.specs.Marks.{IsTraced}
+use Rattle.bound_table.specs.Rows.{entry}
 
 abbrev pub bounds : Workings → ℕ → ℕ → ℤ
 bounds w = entry w.table.rows.items

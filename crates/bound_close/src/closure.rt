@@ -1,16 +1,16 @@
 // The closure of a base and a list of instances.
 ghost use Rattle.std.specs.Prelude.{◌≡◌, ◌<◌, ◌↔◌, IsTrue, ℤ, List, length, true, false, IfOk, MatchOption};
 ghost use Rattle.std.specs.Int.Signed.{◌<ℤ◌};
-ghost use Rattle.bound_close.specs.Over.{AreOver, AreRulesOver};
+ghost use Rattle.bound_ways.specs.Over.{AreOver, AreRulesOver};
 ghost use Rattle.bound_close.specs.Closure.{IsClosure, IsBound, Shows, ShowsContradiction, Closed};
 
-use crate::between::Between;
-use crate::copy::{copy_steps, copy_universe};
-use crate::places::Places;
-use crate::push::push_weaken;
-use crate::row::FAR;
-use crate::way::emit;
 use crate::workings::Workings;
+use bound_table::between::Between;
+use bound_table::row::FAR;
+use bound_ways::copy::{copy_steps, copy_universe};
+use bound_ways::places::Places;
+use bound_ways::push::push_weaken;
+use bound_ways::way::emit;
 use index_props::certificate::Cert;
 use index_props::rule::RuleInst;
 use loop_core::nest::Atom;
@@ -77,8 +77,8 @@ impl Closure {
     ghost use Rattle.uf_constraints.specs.declared.system.Diff.{Diff};
     ghost use Rattle.index_props.specs.declared.rule.RuleInst.{RuleInst};
     ghost use Rattle.index_props.specs.Derivable.{Derivable, IsContradictory};
-    ghost use Rattle.bound_close.specs.Places.{place_in};
-    ghost use Rattle.bound_close.specs.Rows.{far};
+    ghost use Rattle.bound_ways.specs.Places.{place_in};
+    ghost use Rattle.bound_table.specs.Rows.{far};
     ghost use Rattle.bound_close.specs.Workings.{bounds};
     ghost use Rattle.bound_close.specs.Between.{IsBetween, NotBetween};
 

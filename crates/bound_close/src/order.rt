@@ -5,10 +5,10 @@ ghost use Rattle.uf_constraints.specs.declared.system.Diff.{Diff};
 ghost use Rattle.index_props.specs.declared.rule.RuleInst.{RuleInst};
 ghost use Rattle.index_props.specs.Derivable.{IsContradictory};
 ghost use Rattle.bound_close.specs.Closure.{IsClosure, IsBound, AreSame};
-ghost use Rattle.bound_close.specs.Plain.{IsSaturation};
+ghost use Rattle.bound_plain.specs.Plain.{IsSaturation};
 
 use crate::closure::Closure;
-use crate::plain::Plain;
+use bound_plain::plain::Plain;
 
 /// Two closures over one universe and one list of instances, of which the bases are one set of
 /// constraints in any order, give the same answer of `empty`, and the same `bound` where they

@@ -3,9 +3,9 @@ ghost use Rattle.std.specs.Prelude.{◌≡◌, ◌<◌, ◌⊎◌, ℕ, List, le
 ghost use Rattle.std.specs.Int.Signed.{◌<ℤ◌};
 ghost use Rattle.std.specs.List.{Contains};
 
-use crate::places::Places;
-use crate::waiting::Waiting;
 use crate::workings::Workings;
+use bound_table::waiting::Waiting;
+use bound_ways::places::Places;
 use index_props::rule::RuleInst;
 use std::alloc::Global;
 use std::mem::swap;
@@ -14,8 +14,8 @@ use wave_base::types::Memory;
 impl Workings {
     ghost use Rattle.index_props.specs.declared.rule.RuleInst.{RuleInst};
     ghost use Rattle.loop_core.specs.declared.nest.Atom.{Atom};
-    ghost use Rattle.bound_close.specs.declared.waiting.Waiting.{Waiting};
-    ghost use Rattle.bound_close.specs.Over.{AreOver, AreRulesOver};
+    ghost use Rattle.bound_table.specs.declared.waiting.Waiting.{Waiting};
+    ghost use Rattle.bound_ways.specs.Over.{AreOver, AreRulesOver};
     ghost use Rattle.bound_close.specs.Passes.{Taken, Forward, Stopped, IsWaiting, PremiseFails, Stays, Fires, Passed, AllSettled};
     ghost use Rattle.bound_close.specs.Workings.{bounds, IsFine, Halted, Onward};
 
@@ -30,41 +30,8 @@ impl Workings {
         }
     }
 
-    // Fires an instance that waits, or puts it at the end of those that still wait, from its open
-    // premise on.
-    fn look(
-        &mut self,
-        alloc: Global,
-        atoms: &Places,
-        rules: &[RuleInst],
-        waiting: Waiting,
-        still: &mut Vec<Waiting>,
-    ) -> Result<bool, Memory>
-        requires fine { IsFine atoms.now self.old }
-        requires over { AreRulesOver atoms.now rules.now }
-        requires waits { IsWaiting atoms.now rules.now self.old waiting }
-        ensures forward { IfOk result (λ fine. fine ≡ true → Forward atoms.now rules.now self.old self.new) }
-        ensures visited { IfOk result (λ fine. fine ≡ true
-            → Stays atoms.now rules.now self.old self.new waiting.rule still.old.items still.new.items
-            ⊎ Fires atoms.now rules.now self.new waiting.rule still.old.items still.new.items) }
-        ensures stopped { IfOk result (λ fine. fine ≡ false → Stopped atoms.now rules.now self.old self.new) }
-    {
-        let instance = &rules[waiting.rule];
-        let premises = instance.premises.as_slice();
-        let found = self.open_from(atoms, premises, waiting.premise);
-        let premise = found.at;
-        if premise < premises.len() {
-            still.push(Waiting {
-                rule: waiting.rule,
-                premise: found.held,
-                seen: Some(found.seen),
-            })?;
-            return Ok(true);
-        }
-        self.fire(alloc, atoms, rules, waiting.rule)
-    }
-
-    // Fires an instance that waits, or puts it at the end of those that still wait.
+    // Fires an instance that waits, or puts it at the end of those that still wait: as it is where its
+    // open premise still fails, and else from the premise that is found open.
     fn visit(
         &mut self,
         alloc: Global,
@@ -86,7 +53,19 @@ impl Workings {
             still.push(waiting)?;
             return Ok(true);
         }
-        self.look(alloc, atoms, rules, waiting, still)
+        let instance = &rules[waiting.rule];
+        let premises = instance.premises.as_slice();
+        let found = self.open_from(atoms, premises, waiting.premise);
+        let premise = found.at;
+        if premise < premises.len() {
+            still.push(Waiting {
+                rule: waiting.rule,
+                premise: found.held,
+                seen: Some(found.seen),
+            })?;
+            return Ok(true);
+        }
+        self.fire(alloc, atoms, rules, waiting.rule)
     }
 
     // Visits each instance that waits.

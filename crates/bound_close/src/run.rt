@@ -1,8 +1,8 @@
-// A base and a list of instances, from nothing to their closure.
+// A base and a list of instances, from scratch to their closure.
 ghost use Rattle.std.specs.Prelude.{true, false, ◌≡◌, IfOk};
 
-use crate::places::Places;
 use crate::workings::Workings;
+use bound_ways::places::Places;
 use index_props::rule::RuleInst;
 use std::alloc::Global;
 use uf_constraints::system::Diff;
@@ -10,7 +10,7 @@ use wave_base::types::Memory;
 
 impl Workings {
     ghost use Rattle.bound_close.specs.Closure.{Closed};
-    ghost use Rattle.bound_close.specs.Over.{AreOver, AreRulesOver};
+    ghost use Rattle.bound_ways.specs.Over.{AreOver, AreRulesOver};
     ghost use Rattle.bound_close.specs.Workings.{IsFine, Kept, Halted};
 
     /// Takes in a base and then all that follows by instances; false where that is contradictory.

@@ -1,13 +1,13 @@
 // How the workings take in a base and the results of an instance.
 ghost use Rattle.std.specs.Int.Signed.{◌<ℤ◌};
 ghost use Rattle.bound_close.specs.Passes.{IsWatched};
-ghost use Rattle.bound_close.specs.Places.{place_in};
+ghost use Rattle.bound_ways.specs.Places.{place_in};
 ghost use Rattle.std.specs.Prelude.{◌≤ℤ◌, ◌≡◌, ◌<◌, ◌≤◌, length, true, false, IfOk, List, slice_get, take, Some};
 
-use crate::between::Between;
-use crate::places::Places;
-use crate::way::certify;
 use crate::workings::Workings;
+use bound_table::between::Between;
+use bound_ways::places::Places;
+use bound_ways::way::certify;
 use index_props::rule::RuleInst;
 use std::alloc::Global;
 use uf_constraints::system::Diff;
@@ -36,7 +36,7 @@ fn watched(atoms: &Places, diff: &Diff) -> Between
     }
 }
 
-// Those of the constraint at a place of a list, and any behind its end.
+// Those of the constraint at a place of a list, and any after its end.
 fn seen_at(atoms: &Places, diffs: &[Diff], at: usize) -> Between
     ensures { at < length diffs.now → IsWatched atoms.now diffs.now at result }
 {
@@ -54,8 +54,8 @@ fn seen_at(atoms: &Places, diffs: &[Diff], at: usize) -> Between
 impl Workings {
     ghost use Rattle.uf_constraints.specs.declared.system.Diff.{Diff};
     ghost use Rattle.index_props.specs.declared.rule.RuleInst.{RuleInst};
-    ghost use Rattle.bound_close.specs.Exact.{Holds, Fails};
-    ghost use Rattle.bound_close.specs.Over.{AreOver, AreRulesOver};
+    ghost use Rattle.bound_ways.specs.Exact.{Holds, Fails};
+    ghost use Rattle.bound_ways.specs.Over.{AreOver, AreRulesOver};
     ghost use Rattle.bound_close.specs.Passes.{Taken, Applied, Ready, Forward, Stopped, ResultsHold};
     ghost use Rattle.bound_close.specs.Workings.{bounds, IsFine, Halted, Refuted};
 

@@ -2,11 +2,11 @@
 ghost use Rattle.std.specs.Prelude.{◌≡◌, ◌<◌, ◌≤◌, ◌+ℤ◌, ◌≤ℤ◌, ◌∷◌, [], ℕ, length, pos, true, false, IfOk, OnOk, List, Some};
 ghost use Rattle.std.specs.Int.Signed.{◌<ℤ◌};
 
-use crate::edge::Edge;
-use crate::places::Places;
-use crate::push::push_step;
-use crate::table::Table;
-use crate::way::refute;
+use bound_table::edge::Edge;
+use bound_table::table::Table;
+use bound_ways::places::Places;
+use bound_ways::push::push_step;
+use bound_ways::way::refute;
 use index_props::certificate::Step;
 use sqlite_items::Items;
 use std::alloc::Global;
@@ -22,10 +22,10 @@ pub struct Workings {
 
 impl Workings {
     ghost use Rattle.index_props.specs.declared.certificate.Step.TheVariants.{Base, Rule};
-    ghost use Rattle.bound_close.specs.Exact.{bound_of};
-    ghost use Rattle.bound_close.specs.Marks.{no_edge};
-    ghost use Rattle.bound_close.specs.Over.{IsOver};
-    ghost use Rattle.bound_close.specs.Rows.{unit_bound};
+    ghost use Rattle.bound_ways.specs.Exact.{bound_of};
+    ghost use Rattle.bound_table.specs.Marks.{no_edge};
+    ghost use Rattle.bound_ways.specs.Over.{IsOver};
+    ghost use Rattle.bound_table.specs.Rows.{unit_bound};
     ghost use Rattle.bound_close.specs.Workings.{bounds, IsFine, Grown, Clashes};
 
     /// A table for so many atoms in which nothing is known, without steps.

@@ -1,6 +1,6 @@
 use Rattle.std.proofs.Common.{◌≡◌, ◌<◌, ℕ, length, true, false}
 use Rattle.bound_close.specs.Closure.{Closed}
-use Rattle.bound_close.specs.Rows.{unit_bound}
+use Rattle.bound_table.specs.Rows.{unit_bound}
 use Rattle.bound_close.specs.Workings.{bounds, Kept, Refuted}
 use Rattle.bound_close.proofs.Closes.{kept-first, from_not_false, from_not_true}
 use Rattle.bound_close.proofs.closure.close.Goals as goal

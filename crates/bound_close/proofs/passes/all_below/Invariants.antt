@@ -1,6 +1,6 @@
 use Rattle.std.proofs.Common.{None, ℕ, ◌<◌, ◌≡◌}
 use Rattle.std.specs.List.{Contains}
-use Rattle.bound_close.specs.declared.waiting.Waiting.{Waiting}
+use Rattle.bound_table.specs.declared.waiting.Waiting.{Waiting}
 use Rattle.bound_close.proofs.passes.all_below.Given as goal
 
 abbrev pub invariant-loop-rule : goal.invariant-loop-rule

@@ -7,8 +7,8 @@ use Rattle.index_props.specs.declared.certificate.Step.TheVariants.{Weaken}
 use Rattle.index_props.specs.Derivable.{Derivable}
 use Rattle.bound_close.specs.Between.{IsBetween}
 use Rattle.bound_close.specs.Closure.{Found, IsClosure, Shows}
-use Rattle.bound_close.specs.Log.{Emitted}
-use Rattle.bound_close.specs.Places.{place_in, diff_at}
+use Rattle.bound_ways.specs.Log.{Emitted}
+use Rattle.bound_ways.specs.Places.{place_in, diff_at}
 use Rattle.bound_close.specs.Workings.{bounds}
 use Rattle.bound_close.proofs.Closes.{bound-least, certified}
 use Rattle.bound_close.proofs.closure.Closure.proof.Goals as goal

@@ -4,11 +4,12 @@ use Rattle.std.specs.Int.Signed.{◌<ℤ◌}
 use Rattle.std.proofs.lemmas.Int.{to_z-of_z}
 use mir.Val.{SFits}
 use Rattle.bound_close.specs.declared.workings.Workings.{Workings}
-use Rattle.bound_close.specs.Log.{Refuting}
-use Rattle.bound_close.specs.Places.{place_in}
-use Rattle.bound_close.specs.Rows.{Adds, far}
+use Rattle.bound_ways.specs.Log.{Refuting}
+use Rattle.bound_ways.specs.Places.{place_in}
+use Rattle.bound_table.specs.Rows.{Adds, far}
 use Rattle.bound_close.specs.Workings.{bounds}
-use Rattle.bound_close.proofs.Grow.{a_in, b_in, edge_of, clash, grown-added}
+use Rattle.bound_ways.proofs.Bounding.{a_in, b_in}
+use Rattle.bound_close.proofs.Grow.{edge_of, clash, grown-added}
 use Rattle.bound_close.proofs.workings.Workings.add.Goals as goal
 
 pub refuses-requires-clause-a : goal.refuses-requires-clause-a

@@ -1,5 +1,5 @@
 use Rattle.std.proofs.Common.{arith}
-use Rattle.bound_close.proofs.Grow.{over-item}
+use Rattle.bound_ways.proofs.Bounding.{over-item}
 use Rattle.bound_close.proofs.Takes.{base-next, base-stop}
 use Rattle.bound_close.proofs.workings.Workings.add_base.Goals as goal
 

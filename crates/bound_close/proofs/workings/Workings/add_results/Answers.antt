@@ -1,9 +1,9 @@
 use Rattle.std.proofs.Common.{arith, ap, ◌≡◌, ◌∙◌, List, subst, sym}
 use Rattle.uf_constraints.specs.declared.system.Diff.{Diff}
 use Rattle.index_props.specs.declared.rule.RuleInst.{RuleInst}
-use Rattle.bound_close.specs.Over.{AreOver}
-use Rattle.bound_close.proofs.Grow.{over-item}
-use Rattle.bound_close.proofs.Takes.{got, got-is, contains-got, applied-next, applied-stop, applied-all}
+use Rattle.bound_ways.specs.Over.{AreOver}
+use Rattle.bound_ways.proofs.Bounding.{over-item, got, got-is, contains-got}
+use Rattle.bound_close.proofs.Takes.{applied-next, applied-stop, applied-all}
 use Rattle.bound_close.proofs.workings.Workings.add_results.Goals as goal
 
 pub add_result-requires-clause-over : goal.add_result-requires-clause-over

@@ -2,12 +2,13 @@ use Rattle.std.proofs.Common.{ap, ◌≡◌, ◌∙◌, slice_get, Some, List, s
 use Rattle.uf_constraints.specs.declared.system.Diff.{Diff}
 use Rattle.index_props.specs.declared.rule.RuleInst.{RuleInst}
 use Rattle.bound_close.specs.declared.workings.Workings.{Workings}
-use Rattle.bound_close.specs.Exact.{Holds}
-use Rattle.bound_close.specs.Log.{Naming}
-use Rattle.bound_close.specs.Over.{AreOver}
+use Rattle.bound_ways.specs.Exact.{Holds}
+use Rattle.bound_ways.specs.Log.{Naming}
+use Rattle.bound_ways.specs.Over.{AreOver}
 use Rattle.bound_close.specs.Passes.{Applied, Ready, Forward, Stopped}
 use Rattle.bound_close.specs.Workings.{bounds, Refuted}
-use Rattle.bound_close.proofs.Takes.{got, got-is, contains-got, Holds-all, if-ok-map, fire-forward, fire-stop}
+use Rattle.bound_ways.proofs.Bounding.{got, got-is, contains-got, Holds-all, if-ok-map}
+use Rattle.bound_close.proofs.Takes.{fire-forward, fire-stop}
 use Rattle.bound_close.proofs.workings.Workings.fire.Goals as goal
 
 pub first_open-requires-clause-over : goal.first_open-requires-clause-over

@@ -1,7 +1,6 @@
 use Rattle.std.proofs.Common.{arith, ◌≡◌, length, sym}
 use Rattle.bound_close.specs.Workings.{bounds}
-use Rattle.bound_close.proofs.Grow.{over-item}
-use Rattle.bound_close.proofs.Takes.{Holds-more}
+use Rattle.bound_ways.proofs.Bounding.{over-item, Holds-more}
 use Rattle.bound_close.proofs.workings.Workings.first_open.Goals as goal
 
 pub knows-requires-clause-over : goal.knows-requires-clause-over

@@ -1,5 +1,5 @@
 use Rattle.std.proofs.Common.{take}
-use Rattle.bound_close.specs.Exact.{Holds}
+use Rattle.bound_ways.specs.Exact.{Holds}
 use Rattle.bound_close.specs.Workings.{bounds}
 use Rattle.bound_close.proofs.workings.Workings.first_open.Given as goal
 

@@ -1,5 +1,5 @@
 use Rattle.std.proofs.Common.{arith}
-use Rattle.bound_close.proofs.Grow.{a_in}
+use Rattle.bound_ways.proofs.Bounding.{a_in}
 use Rattle.bound_close.proofs.workings.Workings.knows.Goals as goal
 
 pub get-requires : goal.get-requires

@@ -1,7 +1,7 @@
 use Rattle.std.proofs.Common.{None, arith, ◌<◌, length, slice_index_or, []}
 use Rattle.std.proofs.lemmas.List.{get_or_default}
 use Rattle.std.proofs.lemmas.List.Elements.{Contains-get_or}
-use Rattle.bound_close.specs.declared.waiting.Waiting.{Waiting}
+use Rattle.bound_table.specs.declared.waiting.Waiting.{Waiting}
 use Rattle.bound_close.proofs.Passing.{waiting-lower, passed-next}
 use Rattle.bound_close.proofs.Takes.{stopped-trans}
 use Rattle.bound_close.proofs.workings.Workings.pass.Goals as goal

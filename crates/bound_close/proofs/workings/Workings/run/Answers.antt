@@ -3,7 +3,7 @@ use Rattle.bound_close.specs.Closure.{Closed}
 use Rattle.bound_close.specs.Passes.{Forward, Stopped, AllSettled}
 use Rattle.bound_close.specs.Workings.{Kept, Halted}
 use Rattle.bound_close.proofs.Closes.{closed, halts, if-ok-two}
-use Rattle.bound_close.proofs.Takes.{if-ok-map}
+use Rattle.bound_ways.proofs.Bounding.{if-ok-map}
 use Rattle.bound_close.proofs.workings.Workings.run.Goals as goal
 
 pub returns-then-not-branch-clause-halted : goal.returns-then-not-branch-clause-halted

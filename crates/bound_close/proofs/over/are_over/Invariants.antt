@@ -1,6 +1,0 @@
-use Rattle.std.proofs.Common.{take}
-use Rattle.bound_close.specs.Over.{AreOver}
-use Rattle.bound_close.proofs.over.are_over.Given as goal
-
-abbrev pub invariant-loop-diff : goal.invariant-loop-diff
-invariant-loop-diff l = AreOver l.atoms (take l.diff-index l.diffs)

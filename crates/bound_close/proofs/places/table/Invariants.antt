@@ -1,5 +1,0 @@
-use Rattle.bound_close.specs.Places.{AreFirst}
-use Rattle.bound_close.proofs.places.table.Given as goal
-
-abbrev pub invariant-loop-atom : goal.invariant-loop-atom
-invariant-loop-atom l = AreFirst l.atoms l.table.items

@@ -1,7 +1,0 @@
-use Rattle.std.proofs.Common.{arith}
-use Rattle.bound_close.proofs.Grow.{a_in}
-use Rattle.bound_close.proofs.plain.grid.Grid.knows.Goals as goal
-
-pub entry_at-requires : goal.entry_at-requires
-entry_at-requires c =
-    let l = a_in c.args.atoms.now c.args.diff.now c.requires.over in let e = c.place-x.ensures in let f = c.requires.grid.long in omega arith

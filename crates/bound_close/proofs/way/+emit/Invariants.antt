@@ -1,5 +1,0 @@
-use Rattle.bound_close.specs.Marks.{mark_at}
-use Rattle.bound_close.proofs.way.+emit.Given as goal
-
-abbrev pub decreases-emit : goal.decreases-emit
-decreases-emit l = mark_at l.table.now.marks.items l.x l.y

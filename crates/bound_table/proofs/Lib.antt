@@ -1,0 +1,6 @@
+pub mod Count
+pub mod Edges
+pub mod Improve
+pub mod Sets
+pub mod Tight
+pub mod Traced
