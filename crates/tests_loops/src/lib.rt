@@ -2,8 +2,24 @@
 #![tactic(auto)]
 
 #[cfg(test)]
+mod deep;
+#[cfg(test)]
 mod lines;
+#[cfg(test)]
+mod meaning;
+#[cfg(test)]
+mod nests;
+#[cfg(test)]
+mod operators;
+#[cfg(test)]
+mod outside;
+#[cfg(test)]
+mod parts;
 #[cfg(test)]
 mod printing;
 #[cfg(test)]
 mod reading;
+#[cfg(test)]
+mod runs;
+#[cfg(test)]
+mod touched;
