@@ -1,5 +1,5 @@
 // Which rows stand before each row.
-use crate::shown::{push_rows, rows_shown};
+use crate::shown::push_rows;
 use row_graph::buckets::by_key;
 use row_graph::firsts::firsts_of_each;
 use row_graph::lists::Lists;

@@ -1,6 +1,7 @@
 // Rows, levels, tasks and plans as text.
 use plan_build::build::Built;
-use sched_types::sched::{Sched, Task, Tasks};
+use sched_types::lists::Wait;
+use sched_types::sched::{RowTask, Sched, Task, Tasks};
 use std::alloc::Global;
 use wave_base::types::{Memory, RowId};
 
@@ -21,31 +22,38 @@ pub fn push_rows(alloc: Global, text: &mut String, rows: &[RowId]) -> Result<(),
     Ok(())
 }
 
-pub fn rows_shown(alloc: Global, rows: &[RowId]) -> Result<String, Memory> {
-    let mut text = String::new(alloc);
-    push_rows(alloc, &mut text, rows)?;
-    Ok(text)
+fn push_row_tasks(alloc: Global, text: &mut String, tasks: &[RowTask]) -> Result<(), Memory> {
+    text.push_str(" worker")?;
+    for task in tasks {
+        push_number(alloc, text, " level ", task.level)?;
+        push_rows(alloc, text, task.rows.as_slice())?;
+    }
+    Ok(())
 }
 
 // Each worker's tasks with their levels.
 pub fn tasks_shown(alloc: Global, tasks: &Tasks) -> Result<String, Memory> {
     let mut text = String::new(alloc);
     for list in tasks.workers.as_slice() {
-        text.push_str(" worker")?;
-        for task in list.as_slice() {
-            push_number(alloc, &mut text, " level ", task.level)?;
-            push_rows(alloc, &mut text, task.rows.as_slice())?;
-        }
+        push_row_tasks(alloc, &mut text, list.as_slice())?;
     }
     Ok(text)
 }
 
-fn push_task(alloc: Global, text: &mut String, task: &Task) -> Result<(), Memory> {
-    push_number(alloc, text, " task ", task.level)?;
-    push_rows(alloc, text, task.rows.as_slice())?;
-    for wait in task.waits.as_slice() {
+fn push_waits(alloc: Global, text: &mut String, waits: &[Wait]) -> Result<(), Memory> {
+    for wait in waits {
         push_number(alloc, text, " ", wait.worker)?;
         push_number(alloc, text, ":", wait.count)?;
+    }
+    Ok(())
+}
+
+fn push_tasks(alloc: Global, text: &mut String, tasks: &[Task]) -> Result<(), Memory> {
+    text.push_str(" worker")?;
+    for task in tasks {
+        push_number(alloc, text, " task ", task.level)?;
+        push_rows(alloc, text, task.rows.as_slice())?;
+        push_waits(alloc, text, task.waits.as_slice())?;
     }
     Ok(())
 }
@@ -53,10 +61,7 @@ fn push_task(alloc: Global, text: &mut String, task: &Task) -> Result<(), Memory
 // Each worker's tasks with their levels and their waits.
 pub fn push_sched(alloc: Global, text: &mut String, sched: &Sched) -> Result<(), Memory> {
     for list in sched.workers.as_slice() {
-        text.push_str(" worker")?;
-        for task in list.as_slice() {
-            push_task(alloc, text, task)?;
-        }
+        push_tasks(alloc, text, list.as_slice())?;
     }
     Ok(())
 }
