@@ -10,7 +10,6 @@ use Rattle.text_base.proofs.LineLaws.{lines_first, after_less}
 use Rattle.mtx_read.specs.declared.refusal.EntryKind.{EntryKind}
 use Rattle.mtx_read.specs.declared.refusal.MtxRefusal.{MtxRefusal}
 use Rattle.mtx_read.specs.declared.refusal.MtxRefusal.TheVariants as refusals
-use Rattle.mtx_read.specs.declared.entry.Line.{Line}
 use Rattle.mtx_read.specs.declared.entry.Line.TheVariants as found
 use Rattle.mtx_read.specs.Reading.{◌>>=◌, is_skipped, kept, at_line, items_of, announced, as_line, line_is, IsLine}
 

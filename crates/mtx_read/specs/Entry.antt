@@ -1,5 +1,5 @@
 -- The lines of entries and of values.
-use Rattle.std.specs.Prelude.{◌<◌, ℕ, ℤ, pos, negsuc, ◌-◌, ◌^◌, Bool, true, false, List, [], ◌∷◌, if◌then◌else◌, ◌==◌, ◌&&◌, nat_le, nat_lt, Option, Some, None, Result, Ok, Err}
+use Rattle.std.specs.Prelude.{◌<◌, ℕ, ℤ, pos, negsuc, ◌-◌, ◌^◌, Bool, false, List, [], ◌∷◌, if◌then◌else◌, ◌==◌, ◌&&◌, nat_le, nat_lt, Option, Some, None, Result, Ok, Err}
 use Rattle.std.specs.Int.{w64, int_wrapping_neg}
 use Rattle.text_base.specs.Numbers.{integer}
 use Rattle.mtx_read.specs.declared.refusal.EntryKind.{EntryKind}

@@ -1,11 +1,11 @@
 -- Whole files.
-use Rattle.std.specs.Prelude.{ℕ, ℤ, ◌+◌, ◌^◌, List, [], ◌∷◌, if◌then◌else◌, nat_lt, length, Result, Ok, Err}
-use Rattle.text_base.specs.Lines.{lines, trimmed}
+use Rattle.std.specs.Prelude.{◌≡◌, ℕ, ℤ, ◌+◌, ◌^◌, List, [], ◌∷◌, if◌then◌else◌, nat_lt, length, Result, Ok, Err}
+use Rattle.std.specs.Borrow.{Bor}
+use Rattle.text_base.specs.Lines.{lines, first_line, after_line, trimmed}
 use Rattle.text_base.specs.Words.{words}
 use Rattle.mtx_read.specs.declared.refusal.BigKind.TheVariants as bigs
 use Rattle.mtx_read.specs.declared.refusal.MtxRefusal.{MtxRefusal}
 use Rattle.mtx_read.specs.declared.refusal.MtxRefusal.TheVariants as refusals
-use Rattle.mtx_read.specs.declared.header.Format.{Format}
 use Rattle.mtx_read.specs.declared.size.Shape.{Shape}
 use Rattle.mtx_read.specs.Reading.{◌>>=◌, kept, announced}
 use Rattle.mtx_read.specs.Entry.{entry, mirrored, value, alone}
@@ -35,3 +35,15 @@ matrix = of_bytes (of_lines matrix_header matrix_size triples)
 -- the values of a vector file, or its first refusal
 abbrev pub vector : List ℕ → Result (List ℤ) MtxRefusal
 vector = of_bytes (of_lines vector_header (λ f. vector_size) (announced value alone))
+
+-- the first line of a file and the text after it
+abbrev pub head_of : List ℕ → Result (List ℕ × List ℕ) MtxRefusal
+head_of [] = Err refusals.Header
+head_of (b ∷ bs) = Ok (first_line (b ∷ bs), after_line (b ∷ bs))
+
+abbrev pub head : List ℕ → Result (List ℕ × List ℕ) MtxRefusal
+head bytes = if nat_lt (2 ^ 28) (length bytes) then Err (refusals.Big bigs.Bytes (2 ^ 28 + 1)) else head_of bytes
+
+abbrev pub IsHead : List ℕ → Result (Bor (List ℕ) × Bor (List ℕ)) MtxRefusal → Type 0
+IsHead bytes (Ok x) = head bytes ≡ Ok (x.0.now, x.1.now)
+IsHead bytes (Err e) = head bytes ≡ Err e

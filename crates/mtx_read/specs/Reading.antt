@@ -68,7 +68,7 @@ pub record IsLine {A : Type 0} (read : List (List ℕ) → Result A EntryKind) (
   pub reads : line ≡ line_is read (line_words text)
   pub leaves : rest ≡ after_line text
 
--- the first kept line of a text from line k on, and the text behind it
+-- the first kept line of a text from line k on, and the text after it
 abbrev pub IsNext : ℕ → List ℕ → ℕ → Option (Bor (List ℕ) × Bor (List ℕ)) → Type 0
 IsNext k text at None = (kept k (lines text) ≡ []) × (at ≡ k + length (lines text))
 IsNext k text at (Some x) = (kept k (lines text) ≡ (at, words (trimmed x.0.now)) ∷ kept (at + 1) (lines x.1.now)) × (at + 1 + length x.1.now ≤ k + length text)

@@ -3,6 +3,7 @@ ghost use Rattle.std.specs.Prelude.{◌≡◌, Some, None, pos, ◌≤◌, ◌<�
 ghost use Rattle.text_base.specs.Words.{words};
 ghost use Rattle.text_base.specs.Lines.{trimmed};
 ghost use Rattle.mtx_read.specs.Reading.{as_line, line_is, IsLine};
+ghost use Rattle.mtx_read.specs.Quick.{AreTwoNumbers};
 ghost use Rattle.mtx_read.specs.Entry.{placed, ranged, valued, entry, IsClamped};
 ghost use Rattle.mtx_read.specs.declared.header.Field.TheVariants.{Integer, Pattern};
 
@@ -14,7 +15,7 @@ use text_base::numbers::integer;
 use text_base::quick::{quick_close, quick_gap, quick_integer, quick_natural};
 use text_base::words::{next_word, skip_blanks};
 
-/// What a line behind the size line is.
+/// What a line after the size line is.
 #[derive(Clone, Copy, Debug, PartialEq, Eq)]
 pub enum Line<T> {
     Skipped,
@@ -95,11 +96,10 @@ fn line_by_words(shape: &Shape, line: &[u8]) -> Line<(u32, u32, i64)>
     }
 }
 
-/// A plain entry line of integers, read byte by byte. `None` says nothing.
+/// Two plain numbers at the front, read byte by byte, and the text after them. `None` says nothing.
 #[inline(always)]
-fn quick_integers<'a>(shape: &Shape, bytes: &'a [u8]) -> Option<(Line<(u32, u32, i64)>, &'a [u8])>
-    requires { shape.now.field ≡ Integer }
-    ensures { IfSome result (λ x. IsLine (entry shape.now) bytes.now x.0 x.1.now) }
+fn two_numbers(bytes: &[u8]) -> Option<(u64, u64, &[u8])>
+    ensures { IfSome result (λ x. AreTwoNumbers bytes.now x.0 x.1 x.2.now) }
 {
     let start = skip_blanks(bytes);
     let Some((i, after_i)) = quick_natural(start) else {
@@ -109,6 +109,18 @@ fn quick_integers<'a>(shape: &Shape, bytes: &'a [u8]) -> Option<(Line<(u32, u32,
         return None;
     };
     let Some((j, after_j)) = quick_natural(at_j) else {
+        return None;
+    };
+    Some((i, j, after_j))
+}
+
+/// A plain entry line of integers, read byte by byte. `None` says nothing.
+#[inline(always)]
+fn quick_integers<'a>(shape: &Shape, bytes: &'a [u8]) -> Option<(Line<(u32, u32, i64)>, &'a [u8])>
+    requires { shape.now.field ≡ Integer }
+    ensures { IfSome result (λ x. IsLine (entry shape.now) bytes.now x.0 x.1.now) }
+{
+    let Some((i, j, after_j)) = two_numbers(bytes) else {
         return None;
     };
     let Some(at_a) = quick_gap(after_j) else {
@@ -129,14 +141,7 @@ fn quick_pattern<'a>(shape: &Shape, bytes: &'a [u8]) -> Option<(Line<(u32, u32, 
     requires { shape.now.field ≡ Pattern }
     ensures { IfSome result (λ x. IsLine (entry shape.now) bytes.now x.0 x.1.now) }
 {
-    let start = skip_blanks(bytes);
-    let Some((i, after_i)) = quick_natural(start) else {
-        return None;
-    };
-    let Some(at_j) = quick_gap(after_i) else {
-        return None;
-    };
-    let Some((j, after_j)) = quick_natural(at_j) else {
+    let Some((i, j, after_j)) = two_numbers(bytes) else {
         return None;
     };
     let Some(rest) = quick_close(skip_blanks(after_j)) else {

@@ -1,13 +1,14 @@
 //! Reads the text of Matrix Market files: whole-number matrices by coordinates, and whole-number vectors.
 #![tactic(auto)]
 
-pub mod entries;
-pub mod entry;
-pub mod header;
+mod entries;
+mod entry;
+mod head;
+mod header;
 pub mod matrix;
-pub mod next;
+mod next;
 pub mod refusal;
-pub mod size;
+mod size;
 pub mod triples;
-pub mod values;
+mod values;
 pub mod vector;

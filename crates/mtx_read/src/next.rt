@@ -17,7 +17,7 @@ fn is_skipped(line: &[u8]) -> bool
     }
 }
 
-/// The next line that isn't skipped, with its number and the text behind it. Without one the number is
+/// The next line that isn't skipped, with its number and the text after it. Without one the number is
 /// that of the line after the last.
 pub fn next_line(first: u32, bytes: &[u8]) -> (u32, Option<(&[u8], &[u8])>)
     requires { first + length bytes.now < 2 ^ 32 }

@@ -43,11 +43,11 @@ pub enum MtxRefusal {
     Entry { line: u32, kind: EntryKind },
     /// Fewer entry lines than announced.
     Short { have: u64, want: u64 },
-    /// The first line behind the announced entries that isn't skipped.
+    /// The first line after the announced entries that isn't skipped.
     Extra { line: u32 },
     /// The file, or a number of its size line, passes a limit.
     Big { what: BigKind, value: u64 },
-    /// Want of memory. It says nothing of the text.
+    /// Out of memory. It says nothing of the text.
     Memory,
 }
 

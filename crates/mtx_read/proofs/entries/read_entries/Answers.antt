@@ -1,4 +1,4 @@
-use Rattle.std.proofs.Common.{ℕ, ℤ, ◌<◌, length, subst, arith, rules}
+use Rattle.std.proofs.Common.{ℕ, ℤ, ◌<◌, length, subst, arith}
 use Rattle.std.proofs.lemmas.Bool.Decides.{nat_tests}
 use Rattle.text_base.proofs.LineLaws.{after_less}
 use Rattle.mtx_read.specs.declared.entry.Line.{Line}

@@ -1,4 +1,4 @@
-use Rattle.std.proofs.Common.{◌∙◌, sym, rules}
+use Rattle.std.proofs.Common.{◌∙◌, refl, sym, rules}
 use Rattle.std.specs.Prelude.{FitsSigned}
 use Rattle.std.specs.Int.{w64}
 use Rattle.std.proofs.lemmas.Int.{to_z-of_z}
@@ -10,8 +10,9 @@ pub returns : goal.returns
 returns c =
     let range : FitsSigned w64 c.in-Some-quick_integer.a = search rules in
     let ranged = simp to_z-of_z at c.range.ensures in
-    let three = three_words c.args.bytes.now c.skip_blanks-start.result.now c.in-Some.after_i.now c.in-Some-quick_gap.at_j.now c.in-Some-quick_natural.after_j.now c.in-Some-quick_gap-2.at_a.now c.in-Some-quick_integer.after_a.now c.skip_blanks.result.now c.in-Some-quick_close.rest.now c.in-Some.i c.in-Some-quick_natural.j c.in-Some-quick_integer.a c.skip_blanks-start.ensures (sym c.in-Some.ensures.digits) (sym c.in-Some-quick_gap.ensures) (sym c.in-Some-quick_natural.ensures.digits) (sym c.in-Some-quick_gap-2.ensures) (sym c.in-Some-quick_integer.ensures) c.skip_blanks.ensures (sym c.in-Some-quick_close.ensures) in
+    let numbers = c.in-Some.ensures in
+    let three = three_words c.args.bytes.now _ numbers.after_first numbers.at_second c.in-Some.after_j.now c.in-Some-quick_gap.at_a.now c.in-Some-quick_integer.after_a.now c.skip_blanks.result.now c.in-Some-quick_close.rest.now c.in-Some.i c.in-Some.j c.in-Some-quick_integer.a refl numbers.one numbers.gap numbers.two (sym c.in-Some-quick_gap.ensures) (sym c.in-Some-quick_integer.ensures) c.skip_blanks.ensures (sym c.in-Some-quick_close.ensures) in
     record {
-      reads = ranged ∙ quick_is c.args.shape.now c.args.bytes.now c.in-Some.i c.in-Some-quick_natural.j c.in-Some-quick_integer.a c.in-Some-quick_close.rest.now c.requires three (fits_signed c.in-Some-quick_integer.a range);
+      reads = ranged ∙ quick_is c.args.shape.now c.args.bytes.now c.in-Some.i c.in-Some.j c.in-Some-quick_integer.a c.in-Some-quick_close.rest.now c.requires three (fits_signed c.in-Some-quick_integer.a range);
       leaves = sym three.after;
     }
