@@ -1,2 +1,7 @@
 //! Tests of the readers of Matrix Market texts and of compressed arrays.
 #![tactic(auto)]
+
+#[cfg(test)]
+mod matrices;
+#[cfg(test)]
+mod vectors;
