@@ -1,4 +1,4 @@
--- A file's beginning grows by a piece that stands right behind it.
+-- A file's beginning grows by a piece that stands right after it.
 use Rattle.std.proofs.Common.{◌≤◌, ◌+◌, ℕ, List, length, take, ◌++◌, Option, Some, None, Result, Ok, Err, IfOk, IfSome, sym, ◌∙◌}
 use Rattle.std.proofs.Math.Seq.{take-add}
 use Rattle.std.proofs.lemmas.List.{take_at, drop_at, length-take-le, take-append-le}

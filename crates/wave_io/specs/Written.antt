@@ -1,7 +1,7 @@
 -- Bytes that a stream has taken, where it tells them.
 use Rattle.std.specs.Prelude.{◌≡◌, ℕ, List, ◌++◌, Option, None, Some}
 
--- the bytes so far with more at their end; what isn't told stays untold
+-- the bytes so far with more at their end; what isn't known stays unknown
 abbrev pub grown : Option (List ℕ) → List ℕ → Option (List ℕ)
 grown None more = None
 grown (Some bytes) more = Some (bytes ++ more)

@@ -51,6 +51,13 @@ impl<R: Files> FileLibrary<R> {
             faults: 0,
         }
     }
+
+    /// How many fetches have failed, at all names together.
+    pub fn faults_seen(&self) -> u64
+        ensures { result ≡ self.now }
+    {
+        self.faults
+    }
 }
 
 impl<R: Files> Library for FileLibrary<R> {
@@ -95,49 +102,4 @@ fn open_at<R: Files>(files: &R, name: &str, at: u64) -> io::Result<R::File> {
         file.seek(SeekFrom::Start(at))?;
     }
     Ok(file)
-}
-
-#[cfg(test)]
-mod tests {
-    use super::*;
-    use crate::read_all::{ReadCause, read_all};
-    use std::test::Fail;
-
-    #[test]
-    fn a_real_file_is_read(rt: HostRuntime) -> Result<(), Fail> {
-        let name = "/tmp/wave_io_file_library_test";
-        fs::write(&rt, name, b"0123456789")?;
-        let mut lib = FileLibrary::new(rt);
-        let whole = read_all(rt.alloc(), &mut lib, name, 10)
-            .ok()
-            .expect(&rt, "read");
-        assert_eq!(rt; whole.as_slice(), b"0123456789".as_slice());
-        assert_eq!(rt;
-            read_all(rt.alloc(), &mut lib, name, 9).err(),
-            Some(ReadCause::Long)
-        );
-
-        // On from there, back, past the end.
-        let mut into = [0u8; 4];
-        for (at, count, first) in [
-            (2, 4, b'2'),
-            (6, 4, b'6'),
-            (0, 4, b'0'),
-            (8, 2, b'8'),
-            (12, 0, b'8'),
-        ] {
-            assert_eq!(rt; lib.fetch(name, at, &mut into), Ok(count));
-            assert_eq!(rt; into[0], first);
-        }
-
-        fs::remove_file(&rt, name)?;
-        assert_eq!(rt; lib.faults, 0);
-        assert_eq!(rt;
-            read_all(rt.alloc(), &mut lib, "/tmp", 9).err(),
-            Some(ReadCause::Failed)
-        );
-        assert_eq!(rt; lib.fetch(name, 0, &mut into), Err(Failed));
-        assert_eq!(rt; lib.faults, 2);
-        Ok(())
-    }
 }

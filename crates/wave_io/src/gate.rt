@@ -13,17 +13,3 @@ pub struct Free;
 impl Gate for Free {
     fn pass(&self, _worker: u32, _task: u32) {}
 }
-
-#[cfg(test)]
-mod tests {
-    use super::*;
-
-    fn pass_shared<G: Gate + Send + Sync>(gate: &G) {
-        gate.pass(0, 0);
-    }
-
-    #[test]
-    fn threads_may_share_the_free_gate() {
-        pass_shared(&Free);
-    }
-}

@@ -1,4 +1,4 @@
-// A library in memory, which fails when it is told to.
+// A library in memory, which fails at the calls that it was given.
 ghost use Rattle.std.specs.Prelude.{◌≡◌, ◌-◌, ◌≤◌, ◌↔◌, ℕ, List, [], length, min, IsErr, IsSome, IfOk, IfSome, OnOk, OnErr, map};
 ghost use Rattle.std.specs.Option.{option_copied};
 ghost use Rattle.wave_io.specs.Files.{StandsAt};
@@ -122,65 +122,4 @@ fn copy_from(all: &[u8], at: u64, into: &mut [u8]) -> usize
     let count = into.len().min(all.len() - start);
     into[..count].copy_from_slice(&all[start..start + count]);
     count
-}
-
-#[cfg(test)]
-mod tests {
-    use super::*;
-    use crate::read_all::{ReadCause, read_all};
-    use std::alloc::Global;
-    use std::test::Fail;
-
-    // Two files, one of which takes three fetches and has a twin.
-    fn two_files(alloc: Global, fail: Vec<u64>) -> Result<MemLibrary, Fail> {
-        let small = String::from_str(alloc, "small")?;
-        let large = String::from_str(alloc, "large")?;
-        let twin = String::from_str(alloc, "large")?;
-        let files = vec![in alloc;
-            (small, vec![in alloc; 7, 8, 9]?),
-            (large, vec![in alloc; 1; 70_000]?),
-            (twin, vec![in alloc]?),
-        ]?;
-        Ok(MemLibrary::new(files, fail))
-    }
-
-    #[test]
-    fn files_are_read_whole(rt: HostRuntime) -> Result<(), Fail> {
-        let alloc = rt.alloc();
-        let mut lib = two_files(alloc, vec![in alloc]?)?;
-        let small = read_all(alloc, &mut lib, "small", 3)
-            .ok()
-            .expect(&rt, "small");
-        assert_eq!(rt; small.as_slice(), [7, 8, 9].as_slice());
-        let large = read_all(alloc, &mut lib, "large", 70_000)
-            .ok()
-            .expect(&rt, "large");
-        assert_eq!(rt; large.len(), 70_000);
-        assert_eq!(rt;
-            read_all(alloc, &mut lib, "small", 2).err(),
-            Some(ReadCause::Long)
-        );
-        assert_eq!(rt; lib.faults(), 0);
-        assert_eq!(rt;
-            read_all(alloc, &mut lib, "other", 9).err(),
-            Some(ReadCause::Failed)
-        );
-        assert_eq!(rt; lib.other_faults(), 1);
-        Ok(())
-    }
-
-    #[test]
-    fn the_third_fetch_fails(rt: HostRuntime) -> Result<(), Fail> {
-        let alloc = rt.alloc();
-        let mut lib = two_files(alloc, vec![in alloc; 3]?)?;
-        assert_eq!(rt;
-            read_all(alloc, &mut lib, "large", 70_000).err(),
-            Some(ReadCause::Failed)
-        );
-        assert_eq!(rt; lib.faults(), 1);
-        let mut into = [0u8; 4];
-        assert_eq!(rt; lib.fetch("small", 1, &mut into), Ok(2));
-        assert_eq!(rt; into, [8, 9, 0, 0]);
-        Ok(())
-    }
 }

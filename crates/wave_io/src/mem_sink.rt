@@ -1,4 +1,4 @@
-// A sink in memory, which fails when it is told to.
+// A sink in memory, which fails at the calls that it was given.
 ghost use Rattle.std.specs.Prelude.{◌≡◌, ◌<◌, ◌≤◌, ◌↔◌, [], length, IsErr, IfOk, OnErr};
 ghost use Rattle.wave_io.specs.Tape.{Refuses, taken, after_put, after_fault};
 
@@ -101,33 +101,5 @@ impl Sink for MemSink {
         let count = bytes.len().min(self.piece).min(left);
         self.bytes.extend_from_slice(&bytes[..count]).unwrap();
         Ok(count)
-    }
-}
-
-#[cfg(test)]
-mod tests {
-    use super::*;
-    use crate::put_all::put_all;
-    use std::test::Fail;
-
-    #[test]
-    fn a_small_sink_keeps_a_first_part(rt: HostRuntime) -> Result<(), Fail> {
-        let mut sink = MemSink::new(rt.alloc(), 7, 1, vec![in rt.alloc()]?)?;
-        assert_eq!(rt; put_all(&mut sink, b"relations 12"), Err(Failed));
-        assert_eq!(rt; sink.bytes(), b"relatio".as_slice());
-        assert_eq!(rt; sink.faults(), 1);
-        assert_eq!(rt; sink.put(b""), Ok(0));
-        Ok(())
-    }
-
-    #[test]
-    fn the_second_put_fails(rt: HostRuntime) -> Result<(), Fail> {
-        let mut sink = MemSink::new(rt.alloc(), 100, 4, vec![in rt.alloc(); 2]?)?;
-        assert_eq!(rt; sink.put(b"array x"), Ok(4));
-        assert_eq!(rt; sink.put(b"y x"), Err(Failed));
-        assert_eq!(rt; put_all(&mut sink, b"y x 3"), Ok(()));
-        assert_eq!(rt; sink.bytes(), b"array x 3".as_slice());
-        assert_eq!(rt; sink.faults(), 1);
-        Ok(())
     }
 }

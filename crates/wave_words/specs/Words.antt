@@ -1,5 +1,5 @@
 -- Words that are a command's, and the first wrong or missing word of others.
-use Rattle.std.specs.Prelude.{◌≡◌, ℕ, ◌≤◌, IsTrue, List, ◌++◌, length, take, map, string_bytes, String}
+use Rattle.std.specs.Prelude.{ℕ, ◌≤◌, IsTrue, List, ◌++◌, length, take, map, string_bytes, String}
 use Rattle.std.specs.List.{list_any}
 use Rattle.std.specs.declared.alloc.Global.{Global}
 use Rattle.wave_words.specs.declared.form.Form.{Form}

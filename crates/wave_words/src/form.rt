@@ -1,6 +1,6 @@
 // The commands, and how far words follow the form of one.
 ghost use Rattle.std.specs.Prelude.{◌≡◌, ◌≤◌, length};
-ghost use Rattle.wave_words.specs.Forms.{is_whole, reach, form_reach, has_form};
+ghost use Rattle.wave_words.specs.Forms.{slots_of, takes_files, is_whole, reach, form_reach, has_form};
 ghost use Rattle.wave_words.specs.Words.{texts};
 
 use crate::slot::{Slot, fits};
@@ -18,7 +18,7 @@ pub enum Form {
     Show,
 }
 
-/// Whether words fit the places, with any words behind them where `files` says so. It calls itself
+/// Whether words fit the places, with any words after them where `files` says so. It calls itself
 /// once for each place.
 fn is_whole(files: bool, slots: &[Slot], words: &[String]) -> bool
     ensures { result ≡ is_whole files slots.now (texts words.now) }
@@ -52,32 +52,34 @@ fn reach(files: bool, slots: &[Slot], words: &[String]) -> usize
 
 const FILE: Slot = Slot::Name;
 
+/// What stands at the places of a command's words.
+fn slots_of(form: Form) -> &'static [Slot]
+    ensures { result.now ≡ slots_of form }
+{
+    match form {
+        Form::Run => &[Slot::Run, FILE, FILE, Slot::Workers],
+        Form::DemoGrid => &[Slot::Demo, Slot::Grid, Slot::Side, Slot::Workers],
+        Form::DemoLower => &[Slot::Demo, Slot::Lower, Slot::Seed, Slot::Workers],
+        Form::Plan => &[Slot::Plan, FILE, FILE, Slot::Workers],
+        Form::Replay => &[Slot::Replay, FILE, FILE, Slot::Workers, FILE],
+        Form::Check => &[Slot::Check, FILE, FILE],
+        Form::Explain => &[Slot::Explain, FILE],
+        Form::Show => &[Slot::Show, FILE],
+    }
+}
+
+/// Whether any number of files may follow the places.
+fn takes_files(form: Form) -> bool
+    ensures { result ≡ takes_files form }
+{
+    matches!(form, Form::Run | Form::Plan | Form::Replay | Form::Check)
+}
+
 /// Whether words are those of a command.
 pub fn has_form(words: &[String], form: Form) -> bool
     ensures { result ≡ has_form (texts words.now) form }
 {
-    match form {
-        Form::Run => is_whole(true, &[Slot::Run, FILE, FILE, Slot::Workers], words),
-        Form::DemoGrid => is_whole(
-            false,
-            &[Slot::Demo, Slot::Grid, Slot::Side, Slot::Workers],
-            words,
-        ),
-        Form::DemoLower => is_whole(
-            false,
-            &[Slot::Demo, Slot::Lower, Slot::Seed, Slot::Workers],
-            words,
-        ),
-        Form::Plan => is_whole(true, &[Slot::Plan, FILE, FILE, Slot::Workers], words),
-        Form::Replay => is_whole(
-            true,
-            &[Slot::Replay, FILE, FILE, Slot::Workers, FILE],
-            words,
-        ),
-        Form::Check => is_whole(true, &[Slot::Check, FILE, FILE], words),
-        Form::Explain => is_whole(false, &[Slot::Explain, FILE], words),
-        Form::Show => is_whole(false, &[Slot::Show, FILE], words),
-    }
+    is_whole(takes_files(form), slots_of(form), words)
 }
 
 /// How many words, from the first on, may begin words of a command.
@@ -85,26 +87,5 @@ pub fn form_reach(words: &[String], form: Form) -> usize
     ensures count { result ≡ form_reach (texts words.now) form }
     ensures within { result ≤ length words.now }
 {
-    match form {
-        Form::Run => reach(true, &[Slot::Run, FILE, FILE, Slot::Workers], words),
-        Form::DemoGrid => reach(
-            false,
-            &[Slot::Demo, Slot::Grid, Slot::Side, Slot::Workers],
-            words,
-        ),
-        Form::DemoLower => reach(
-            false,
-            &[Slot::Demo, Slot::Lower, Slot::Seed, Slot::Workers],
-            words,
-        ),
-        Form::Plan => reach(true, &[Slot::Plan, FILE, FILE, Slot::Workers], words),
-        Form::Replay => reach(
-            true,
-            &[Slot::Replay, FILE, FILE, Slot::Workers, FILE],
-            words,
-        ),
-        Form::Check => reach(true, &[Slot::Check, FILE, FILE], words),
-        Form::Explain => reach(false, &[Slot::Explain, FILE], words),
-        Form::Show => reach(false, &[Slot::Show, FILE], words),
-    }
+    reach(takes_files(form), slots_of(form), words)
 }

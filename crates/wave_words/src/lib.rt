@@ -3,6 +3,4 @@
 
 pub mod form;
 pub mod slot;
-#[cfg(test)]
-mod tests;
 pub mod usage;

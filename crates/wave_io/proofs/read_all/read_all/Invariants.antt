@@ -2,7 +2,7 @@ use Rattle.std.proofs.Common.{◌+◌, ◌-◌, ◌≡◌, ◌≤◌, ℕ, List,
 use Rattle.wave_io.specs.Files.{Begin}
 use Rattle.wave_io.proofs.read_all.read_all.Given as goal
 
--- what was fetched is the file's beginning, and at most one piece of room stands behind it
+-- what was fetched is the file's beginning, and at most one piece of room stands after it
 abbrev pub invariant-loop-filled : goal.invariant-loop-filled
 invariant-loop-filled g l = record {
   filled : l.filled ≤ vec_len l.bytes;

@@ -1,6 +1,6 @@
 use Rattle.std.proofs.Common.{arith}
 use Rattle.wave_io.proofs.Begins.{begins_after}
-use Rattle.wave_io.proofs.read_all.fetch_behind.Goals as goal
+use Rattle.wave_io.proofs.read_all.fetch_after.Goals as goal
 
 pub returns-clause-bytes : goal.returns-clause-bytes
 returns-clause-bytes g c =
