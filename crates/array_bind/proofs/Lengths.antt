@@ -29,7 +29,7 @@ use Rattle.array_bind.specs.declared.shape.OtherLength.{OtherLength}
 use Rattle.array_bind.specs.declared.shape.ShapeRefusal.TheVariants as refusals
 use Rattle.array_bind.specs.Matrix.{matrix_form, by_rows, compressed}
 use Rattle.array_bind.specs.Shape.{file_size, before, file_sizes, length_fault, length_refusal, stored, files_fault, shape_fault}
-use Rattle.array_bind.specs.Lists.{first_file, other_files, files_behind, index_of, data_of, matrix_behind, index_lists, data_lists, bound_of, Binds}
+use Rattle.array_bind.specs.Lists.{first_file, other_files, files_after, index_of, data_of, matrix_after, index_lists, data_lists, bound_of, Binds}
 use Rattle.array_bind.specs.Lengths.{AreDeclared}
 
 -- ---- the arrays of a matrix
@@ -85,7 +85,7 @@ Takes n nnz m (Vector size Zeros) files = Unit {0}
 
 abbrev AllTake : ℕ → ℕ → Compressed → List Decl → List (List ℤ) → Type 0
 AllTake n nnz m [] files = Unit {0}
-AllTake n nnz m (d ∷ ds) files = Takes n nnz m d.kind files × AllTake n nnz (matrix_behind d.kind m) ds (files_behind d.kind files)
+AllTake n nnz m (d ∷ ds) files = Takes n nnz m d.kind files × AllTake n nnz (matrix_after d.kind m) ds (files_after d.kind files)
 
 -- how many matrices a declaration has, and declarations have
 abbrev one_matrix : DeclKind → ℕ
@@ -95,7 +95,7 @@ abbrev matrices : List Decl → ℕ
 matrices ds = count_by (λ d. is_matrix d.kind) ds
 
 takes : (n nnz : ℕ) (kind : DeclKind) (m : Compressed) (c : ℕ) (ss : List Size) (files : List (List ℤ)) → one_matrix kind + c ≤ 1 → (0 < one_matrix kind + c → IsWhole n nnz m) → FilesFit n nnz (before (file_size kind) ss) files
-    → Takes n nnz m kind files × (c ≤ 1) × (0 < c → IsWhole n nnz (matrix_behind kind m)) × FilesFit n nnz ss (files_behind kind files)
+    → Takes n nnz m kind files × (c ≤ 1) × (0 < c → IsWhole n nnz (matrix_after kind m)) × FilesFit n nnz ss (files_after kind files)
 takes n nnz (Matrix form) m c ss files few all fit = (all (omega arith), omega (arith, few), λ some. absurd (omega (arith, few, some)), fit)
 takes n nnz (Index size) m c ss files few all fit = (fit.0, omega (arith, few), λ some. all (omega (arith, some)), fit.1)
 takes n nnz (Vector size File) m c ss files few all fit = (fit.0, omega (arith, few), λ some. all (omega (arith, some)), fit.1)
@@ -106,7 +106,7 @@ all_take n nnz m [] files few all fit = tt
 all_take n nnz m (d ∷ ds) files few all fit =
     let e : matrices (d ∷ ds) ≡ one_matrix d.kind + matrices ds = sum_by-cons (λ d. one_matrix d.kind) d ds in
     let h = takes n nnz d.kind m (matrices ds) (file_sizes ds) files (subst (λ k. k ≤ 1) e few) (λ some. all (subst (λ k. 0 < k) (sym e) some)) fit in
-    (h.0, all_take n nnz (matrix_behind d.kind m) ds (files_behind d.kind files) h.1 h.2 h.3)
+    (h.0, all_take n nnz (matrix_after d.kind m) ds (files_after d.kind files) h.1 h.2 h.3)
 
 -- ---- the lists at an array number
 
@@ -135,8 +135,8 @@ right_one n nnz (Vector size Zeros) m files ks ss fs xs t h (suc i) = h i
 right : (n nnz : ℕ) (m : Compressed) (ds : List Decl) (files : List (List ℤ)) → AllTake n nnz m ds files → (i : ℕ) → RightAt n nnz (kinds ds) (sizes ds) (index_lists m ds files) (data_lists n nnz m ds files) i
 right n nnz m [] files t i = tt
 right n nnz m (d ∷ ds) files t i =
-    right_one n nnz d.kind m files (kinds ds) (sizes ds) (index_lists (matrix_behind d.kind m) ds (files_behind d.kind files)) (data_lists n nnz (matrix_behind d.kind m) ds (files_behind d.kind files)) t.0
-    (right n nnz (matrix_behind d.kind m) ds (files_behind d.kind files) t.1) i
+    right_one n nnz d.kind m files (kinds ds) (sizes ds) (index_lists (matrix_after d.kind m) ds (files_after d.kind files)) (data_lists n nnz (matrix_after d.kind m) ds (files_after d.kind files)) t.0
+    (right n nnz (matrix_after d.kind m) ds (files_after d.kind files) t.1) i
 
 of_places : (n nnz : ℕ) (kind : Option Kind) (size : Option Size) (f x : List ℤ) → Right n nnz kind size f x → IsTrue (option_map_or holds_places kind false) → (length f ≡ option_map_or (size_length n nnz) size 0) × (x ≡ [])
 of_places n nnz (Some Places) size f x r h = r
@@ -158,10 +158,10 @@ one_index m (Vector size source) files = refl
 many_index : (m : Compressed) (ds : List Decl) (files : List (List ℤ)) → length (index_lists m ds files) ≡ length (sizes ds)
 many_index m [] files = refl
 many_index m (d ∷ ds) files =
-    let rest = index_lists (matrix_behind d.kind m) ds (files_behind d.kind files) in
+    let rest = index_lists (matrix_after d.kind m) ds (files_after d.kind files) in
     let e = length-append (index_of m d.kind files) rest in
     let k = length-append (sizes_of d.kind) (sizes ds) in
-    omega (arith, e, k, one_index m d.kind files, many_index (matrix_behind d.kind m) ds (files_behind d.kind files))
+    omega (arith, e, k, one_index m d.kind files, many_index (matrix_after d.kind m) ds (files_after d.kind files))
 
 one_data : (n nnz : ℕ) (m : Compressed) (kind : DeclKind) (files : List (List ℤ)) → length (data_of n nnz m kind files) ≡ length (sizes_of kind)
 one_data n nnz m (Matrix form) files = refl
@@ -172,10 +172,10 @@ one_data n nnz m (Vector size Zeros) files = refl
 many_data : (n nnz : ℕ) (m : Compressed) (ds : List Decl) (files : List (List ℤ)) → length (data_lists n nnz m ds files) ≡ length (sizes ds)
 many_data n nnz m [] files = refl
 many_data n nnz m (d ∷ ds) files =
-    let rest = data_lists n nnz (matrix_behind d.kind m) ds (files_behind d.kind files) in
+    let rest = data_lists n nnz (matrix_after d.kind m) ds (files_after d.kind files) in
     let e = length-append (data_of n nnz m d.kind files) rest in
     let k = length-append (sizes_of d.kind) (sizes ds) in
-    omega (arith, e, k, one_data n nnz m d.kind files, many_data n nnz (matrix_behind d.kind m) ds (files_behind d.kind files))
+    omega (arith, e, k, one_data n nnz m d.kind files, many_data n nnz (matrix_after d.kind m) ds (files_after d.kind files))
 
 -- ---- all arrays
 

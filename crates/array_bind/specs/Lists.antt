@@ -1,5 +1,5 @@
 -- A list for each array number: the index arrays, and the data arrays.
-use Rattle.std.specs.Prelude.{◌≡◌, ℕ, ℤ, pos, List, [], ◌∷◌, ◌++◌, length, replicate, Option, Some, None, Result, Ok, Err}
+use Rattle.std.specs.Prelude.{◌≡◌, ℕ, ℤ, pos, List, [], ◌∷◌, ◌++◌, replicate, Option, Some, None, Result, Ok, Err}
 use Rattle.loop_core.specs.declared.decl.Decl.{Decl}
 use Rattle.loop_core.specs.declared.decl.DeclKind.{DeclKind}
 use Rattle.loop_core.specs.declared.decl.DeclKind.TheVariants as kinds
@@ -24,11 +24,11 @@ abbrev pub other_files : List (List ℤ) → List (List ℤ)
 other_files [] = []
 other_files (file ∷ files) = files
 
-abbrev pub files_behind : DeclKind → List (List ℤ) → List (List ℤ)
-files_behind (kinds.Matrix form) files = files
-files_behind (kinds.Index size) files = other_files files
-files_behind (kinds.Vector size File) files = other_files files
-files_behind (kinds.Vector size Zeros) files = files
+abbrev pub files_after : DeclKind → List (List ℤ) → List (List ℤ)
+files_after (kinds.Matrix form) files = files
+files_after (kinds.Index size) files = other_files files
+files_after (kinds.Vector size File) files = other_files files
+files_after (kinds.Vector size Zeros) files = files
 
 -- the index arrays of a declaration, with an empty list for each data array
 abbrev pub index_of : Compressed → DeclKind → List (List ℤ) → List (List ℤ)
@@ -47,18 +47,18 @@ data_of n nnz m (kinds.Vector size Zeros) files = replicate (size_length n nnz s
 abbrev pub none_left : Compressed
 none_left = record { ptr = []; index = []; diag = []; val = [] }
 
-abbrev pub matrix_behind : DeclKind → Compressed → Compressed
-matrix_behind (kinds.Matrix form) m = none_left
-matrix_behind (kinds.Index size) m = m
-matrix_behind (kinds.Vector size source) m = m
+abbrev pub matrix_after : DeclKind → Compressed → Compressed
+matrix_after (kinds.Matrix form) m = none_left
+matrix_after (kinds.Index size) m = m
+matrix_after (kinds.Vector size source) m = m
 
 abbrev pub index_lists : Compressed → List Decl → List (List ℤ) → List (List ℤ)
 index_lists m [] files = []
-index_lists m (d ∷ more) files = index_of m d.kind files ++ index_lists (matrix_behind d.kind m) more (files_behind d.kind files)
+index_lists m (d ∷ more) files = index_of m d.kind files ++ index_lists (matrix_after d.kind m) more (files_after d.kind files)
 
 abbrev pub data_lists : ℕ → ℕ → Compressed → List Decl → List (List ℤ) → List (List ℤ)
 data_lists n nnz m [] files = []
-data_lists n nnz m (d ∷ more) files = data_of n nnz m d.kind files ++ data_lists n nnz (matrix_behind d.kind m) more (files_behind d.kind files)
+data_lists n nnz m (d ∷ more) files = data_of n nnz m d.kind files ++ data_lists n nnz (matrix_after d.kind m) more (files_after d.kind files)
 
 -- the arrays of a nest's declarations over a matrix and files
 abbrev pub arrays_of : List Decl → ℕ → List Triple → List (List ℤ) → Lists

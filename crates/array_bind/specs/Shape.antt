@@ -1,5 +1,5 @@
 -- Whether a matrix and files have the shapes that a nest's declarations ask.
-use Rattle.std.specs.Prelude.{ℕ, ℤ, ◌+◌, if◌then◌else◌, ◌==◌, List, [], ◌∷◌, ◌++◌, length, Option, Some, None}
+use Rattle.std.specs.Prelude.{ℕ, ℤ, ◌+◌, if◌then◌else◌, ◌==◌, List, [], ◌∷◌, length, Option, Some, None}
 use Rattle.std.specs.Option.{option_map}
 use Rattle.loop_core.specs.declared.decl.Decl.{Decl}
 use Rattle.loop_core.specs.declared.decl.DeclKind.{DeclKind}

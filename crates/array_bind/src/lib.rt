@@ -2,9 +2,7 @@
 #![tactic(auto)]
 
 pub mod bind;
-pub mod files;
+mod files;
 pub mod laws;
-pub mod lists;
+mod lists;
 pub mod shape;
-#[cfg(test)]
-mod tests;

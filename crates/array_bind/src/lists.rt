@@ -1,7 +1,7 @@
 // A list for each array number.
 ghost use Rattle.std.specs.Prelude.{◌≡◌, ◌++◌, [], ◌∷◌, pos, replicate, OnOk, IfOk};
 ghost use Rattle.loop_core.specs.Sizes.{size_length};
-ghost use Rattle.array_bind.specs.Lists.{none_left, index_of, data_of, matrix_behind, files_behind};
+ghost use Rattle.array_bind.specs.Lists.{none_left, index_of, data_of, matrix_after, files_after};
 
 use crate::files::Files;
 use crate::shape::size_length;
@@ -104,7 +104,7 @@ pub fn put_declared(
 ) -> Result<Sources, Memory>
     ensures index { OnOk result (lists.new.index.items ≡ lists.old.index.items ++ index_of sources.matrix kind sources.files) }
     ensures values { OnOk result (lists.new.values.items ≡ lists.old.values.items ++ data_of n nnz sources.matrix kind sources.files) }
-    ensures left { IfOk result (λ left. (left.matrix ≡ matrix_behind kind sources.matrix) × (left.files ≡ files_behind kind sources.files)) }
+    ensures left { IfOk result (λ left. (left.matrix ≡ matrix_after kind sources.matrix) × (left.files ≡ files_after kind sources.files)) }
 {
     let Sources { matrix, mut files } = sources;
     match kind {

@@ -1,7 +1,7 @@
 // Whether a matrix and files fit a nest.
 ghost use Rattle.std.specs.Prelude.{◌≡◌, ◌+◌, ◌<◌, ◌≤◌, ◌^◌, ◌++◌, length, IfOk, IfSome};
 ghost use Rattle.loop_core.specs.Sizes.{size_length};
-ghost use Rattle.array_bind.specs.declared.shape.ShapeRefusal.TheVariants.{Memory as Wanting};
+ghost use Rattle.array_bind.specs.declared.shape.ShapeRefusal.TheVariants.{Memory as OutOfMemory};
 ghost use Rattle.array_bind.specs.Shape.{file_size, before, file_sizes, length_fault};
 
 use loop_core::decl::{Decl, DeclKind, Size, Source};
@@ -18,12 +18,12 @@ pub enum ShapeRefusal {
     Files { have: u32, want: u32 },
     /// The first file that hasn't as many words as its array.
     Length { file: u32, have: u64, want: u64 },
-    /// Want of memory. It says nothing of the shapes.
+    /// Out of memory. It says nothing of the shapes.
     Memory,
 }
 
 impl From<Memory> for ShapeRefusal {
-    ghost from_gives = { λ _ e. e ≡ Wanting };
+    ghost from_gives = { λ _ e. e ≡ OutOfMemory };
 
     fn from(_refused: Memory) -> ShapeRefusal {
         ShapeRefusal::Memory
@@ -31,7 +31,7 @@ impl From<Memory> for ShapeRefusal {
 }
 
 impl From<AllocError> for ShapeRefusal {
-    ghost from_gives = { λ _ e. e ≡ Wanting };
+    ghost from_gives = { λ _ e. e ≡ OutOfMemory };
 
     fn from(_refused: AllocError) -> ShapeRefusal {
         ShapeRefusal::Memory
@@ -39,7 +39,7 @@ impl From<AllocError> for ShapeRefusal {
 }
 
 impl<T: Drop> From<AllocFailed<T>> for ShapeRefusal {
-    ghost from_gives = { λ _ e. e ≡ Wanting };
+    ghost from_gives = { λ _ e. e ≡ OutOfMemory };
 
     fn from(_refused: AllocFailed<T>) -> ShapeRefusal {
         ShapeRefusal::Memory

@@ -1,8 +1,8 @@
 // Arrays of small nests by hand, and shapes that don't fit.
 ghost use Rattle.std.specs.Prelude.{◌≡◌};
 
-use crate::bind::{Bound, bind};
-use crate::shape::ShapeRefusal;
+use array_bind::bind::{Bound, bind};
+use array_bind::shape::ShapeRefusal;
 use loop_core::arrays::Arrays;
 use loop_core::decl::{Decl, DeclKind, Form, Size, Source, size_of};
 use loop_core::name::Name;
