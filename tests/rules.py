@@ -1,6 +1,6 @@
 #!/usr/bin/env python3
 """Lists the atoms and the rule instances of the systems of crates/bench_rules, straight from the table
-of rules in docs/ANALYSIS.md. It shares nothing with the program. The gate compares what the program
+of rules in docs/use/ANALYSIS.md. It shares nothing with the program. The gate compares what the program
 prints with crates/bench_rules/stdout, which this script made:
 
     python3 tests/rules.py | cmp - crates/bench_rules/stdout
@@ -244,7 +244,7 @@ show(
     [], properties(True))
 print("bracket 12:4")
 show(SIZES + [("0", "v9", 0), ("v9", "n", -1)] + of_loop("v9", "v11"), [value(entry(1, "v11"))], properties(False))
-# what the derivation in docs/ANALYSIS.md ends with, and where one with a step that names itself fails
+# what the derivation in docs/use/ANALYSIS.md ends with, and where one with a step that names itself fails
 print("certificate " + diff(entry(1, "v11"), "n", -1))
 print("bad step 20")
 for number in range(240):
