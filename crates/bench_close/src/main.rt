@@ -1,67 +1,26 @@
 //! Closes systems of two chains of loops over compressed rows, a plain one and a contradictory one,
-//! and checks a certificate of each. The words are LEVELS, and behind it TURNS, with which it also
+//! and checks a certificate of each. The words are LEVELS, and after it TURNS, with which it also
 //! prints the least time that a closure and its certificate took in so many turns.
 #![tactic(auto)]
 
 ghost use Rattle.bound_close.specs.Over.{AreOver, AreRulesOver};
 
-mod chains;
-
-use crate::chains::System;
 use bound_close::closure::{Closure, close};
 use bound_close::over::{are_over, are_rules_over};
 use cert_check::check::check;
 use index_props::certificate::Cert;
-use index_props::instances::instances;
-use index_props::rule::RuleInst;
-use index_props::small::are_bounds_small;
 use loop_core::nest::Atom;
-use sqlite_items::Items;
+use rule_samples::chains::two_chains;
+use rule_samples::listing::{Listing, list};
 use std::alloc::Global;
 use std::time::Instant;
 use std::{env, io};
-use uf_constraints::small::{are_diffs_small, are_terms_small};
-use uf_constraints::system::{Diff, Universe};
-use uf_constraints::universe::universe;
-
-/// A system with its atoms and its instances.
-#[derive(Drop)]
-struct Listing {
-    base: Items<Diff>,
-    universe: Universe,
-    rules: Items<RuleInst>,
-}
 
 /// A closure and a certificate of it.
 #[derive(Drop)]
 struct Closed {
     closure: Closure,
     cert: Cert,
-}
-
-fn list(alloc: Global, system: System) -> Option<Listing> {
-    let System {
-        base,
-        terms,
-        decls,
-        props,
-    } = system;
-    if !are_diffs_small(base.as_slice()) {
-        return None;
-    }
-    if !are_terms_small(terms.as_slice()) {
-        return None;
-    }
-    if !are_bounds_small(props.as_slice()) {
-        return None;
-    }
-    let universe = universe(alloc, base.as_slice(), terms.as_slice(), props.as_slice()).ok()?;
-    let rules = instances(alloc, &universe, decls.as_slice(), props.as_slice()).ok()?;
-    Some(Listing {
-        base,
-        universe,
-        rules,
-    })
 }
 
 /// A refutation, or a proof of the bound between the first atom and the last.
@@ -150,7 +109,7 @@ fn time(rt: &HostRuntime, listing: &Listing, turns: u32) -> io::Result<()>
 }
 
 fn serve(rt: &HostRuntime, levels: u16, contradictory: bool, turns: u32) -> io::Result<()> {
-    let Some(system) = chains::two_chains(rt.alloc(), levels, contradictory) else {
+    let Ok(system) = two_chains(rt.alloc(), levels, contradictory) else {
         return Ok(());
     };
     let Some(listing) = list(rt.alloc(), system) else {

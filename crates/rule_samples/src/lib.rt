@@ -5,6 +5,7 @@
 pub mod atoms;
 pub mod chains;
 pub mod forward;
+pub mod listing;
 pub mod made;
 pub mod many;
 pub mod system;

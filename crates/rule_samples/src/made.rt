@@ -8,21 +8,22 @@ use loop_core::nest::{Atom, Side, Term};
 use std::alloc::Global;
 use wave_base::types::{ArrayId, Memory};
 
-// Numbers that follow from a counter.
+/// Numbers that follow from a counter.
 #[derive(Clone, Copy)]
-struct Dice {
+pub struct Dice {
     state: u32,
 }
 
 impl Dice {
-    fn of(counter: u32) -> Dice {
+    /// The numbers of a counter. It takes no memory.
+    pub fn of(counter: u32) -> Dice {
         Dice {
             state: counter.wrapping_mul(2654435761).wrapping_add(12345),
         }
     }
 
-    // One of the first numbers, so many.
-    fn roll(&mut self, sides: u32) -> u32
+    /// One of the first numbers, so many.
+    pub fn roll(&mut self, sides: u32) -> u32
         requires { 0 < sides }
         ensures { result < sides }
     {
