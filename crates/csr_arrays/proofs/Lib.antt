@@ -1,3 +1,5 @@
 pub mod Buckets
-pub mod Steps
-pub mod Merge
+pub mod Columns
+pub mod Filling
+pub mod Places
+pub mod Turning

@@ -1,4 +1,3 @@
 pub mod Arrays
 pub mod Axes
-pub mod Order
 pub mod Rows

@@ -1,5 +1,5 @@
 // The arrays of a matrix.
-use crate::numbers::Numbers;
+use wave_base::words::Words;
 
 /// The stored places of a square matrix, row by row or column by column.
 ///
@@ -8,8 +8,8 @@ use crate::numbers::Numbers;
 /// `ptr[i + 1]`.
 #[derive(Debug, Drop)]
 pub struct Compressed {
-    pub ptr: Numbers,
-    pub index: Numbers,
-    pub diag: Numbers,
-    pub val: Numbers,
+    pub ptr: Words,
+    pub index: Words,
+    pub diag: Words,
+    pub val: Words,
 }

@@ -1,9 +1,9 @@
 //! The compressed arrays of a matrix, by rows or by columns.
 #![tactic(auto)]
 
-pub mod axis;
+mod axis;
+mod bucketed;
 pub mod compressed;
 pub mod csr;
-pub mod numbers;
-pub mod order;
-pub mod rows;
+mod row;
+mod rows;

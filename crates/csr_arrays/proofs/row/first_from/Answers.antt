@@ -1,6 +1,6 @@
 use Rattle.std.proofs.Common.{pos, ◌≤ℤ◌, get_or, length, arith, rules}
-use Rattle.csr_arrays.proofs.Steps.{first_is}
-use Rattle.csr_arrays.proofs.rows.first_from.Goals as goal
+use Rattle.csr_arrays.proofs.Columns.{first_is}
+use Rattle.csr_arrays.proofs.row.first_from.Goals as goal
 
 pub returns-then-from-column-clause-first : goal.returns-then-from-column-clause-first
 returns-then-from-column-clause-first c =
