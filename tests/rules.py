@@ -184,33 +184,45 @@ class Dice:
     def __init__(self, counter):
         self.state = (counter * 2654435761 + 12345) % 2**32
 
-    def roll(self):
+    def roll(self, sides):
         self.state = (self.state * 1664525 + 1013904223) % 2**32
-        return (self.state >> 16) % 16
+        return (self.state >> 16) % sides
 
     def array(self):
-        return self.roll() % 3
+        return self.roll(3)
+
+    def size(self):
+        return ["0", "n", "nnz"][self.roll(3)]
 
     def leaf(self):
-        return ["0", "n", "nnz", "v1", "v2", "v3"][self.roll() % 6]
+        if self.roll(2) == 0:
+            return self.size()
+        line = 1 + self.roll(2)
+        return f"v{line}" + ["", "'", '"'][self.roll(3)]
 
-    def entry(self, atom):
-        array = self.array()
-        return (array, (atom, [-1, 0, 1, 2][self.roll() % 4]))
+    def plus(self):
+        return self.roll(4) - 1
 
     def atom(self):
-        kind = self.roll() % 4
-        leaf = self.leaf()
-        if kind == 0:
-            return leaf
-        inner = self.entry(leaf)
-        return inner if kind < 3 else self.entry(inner)
+        atom = self.leaf()
+        for _ in range(self.roll(4)):
+            plus = self.plus()
+            atom = (self.array(), (atom, plus))
+        return atom
+
+    def bound(self):
+        size = self.size()
+        return (size, self.plus())
 
     def kind(self):
         f, g, h = self.array(), self.array(), self.array()
-        kinds = [("range", f, ZERO, ("n", 0)), ("rising", f), ("strict", f), ("injective", f), ("sorted", f, g)]
-        kinds += [("below", f, g), ("upto", f, g), ("diagonal", f, g, h), ("before", f, g)]
-        return kinds[self.roll() % 9]
+        kind = self.roll(12)
+        if kind == 0:
+            low = self.bound()
+            return ("range", f, low, self.bound())
+        kinds = [("rising", f), ("strict", f), ("injective", f), ("sorted", f, g), ("below", f, g)]
+        kinds += [("upto", f, g), ("before", f, g)]
+        return kinds[kind - 1] if kind <= 7 else ("diagonal", f, g, h)
 
 
 def summed(total, line):
@@ -222,11 +234,11 @@ def summed(total, line):
 def show_made(counter):
     dice = Dice(counter)
     base = []
-    for _ in range(1 + dice.roll() % 5):
+    for _ in range(dice.roll(6)):
         a = dice.atom()
         base.append((a, dice.atom(), 0))
-    terms = [value(dice.atom()) for _ in range(dice.roll() % 2)]
-    props = [dice.kind() for _ in range(dice.roll() % 4)]
+    terms = [value(dice.atom()) for _ in range(dice.roll(3))]
+    props = [dice.kind() for _ in range(dice.roll(5))]
     atoms = universe(base, terms, props)
     lines = instances(atoms, props)
     total = 0

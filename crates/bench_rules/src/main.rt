@@ -4,19 +4,20 @@
 //! it prints the least time of so many listings of a system of 90 atoms instead.
 #![tactic(auto)]
 
-mod forward;
-mod large;
-mod made;
 mod text;
 mod worked;
 
-use crate::forward::System;
 use crate::text::{atom_text, diff_text, rule_text};
 use cert_check::check::check;
 use cert_check::refusal::CertRefusal;
 use index_props::instances::instances;
 use index_props::rule::RuleInst;
 use index_props::small::are_bounds_small;
+use loop_core::decl::PropKind;
+use rule_samples::made::make_system;
+use rule_samples::many::many_entries;
+use rule_samples::system::{PTR, System};
+use rule_samples::forward;
 use sqlite_items::Items;
 use std::alloc::{AllocError, Global};
 use std::time::Instant;
@@ -24,6 +25,7 @@ use std::{env, io};
 use uf_constraints::small::{are_diffs_small, are_terms_small};
 use uf_constraints::system::Universe;
 use uf_constraints::universe::universe;
+use wave_base::types::Memory;
 
 /// The atoms and the instances of a system.
 #[derive(Drop)]
@@ -50,8 +52,8 @@ fn list(alloc: Global, system: &System) -> Option<Listing> {
     Some(Listing { universe, rules })
 }
 
-fn show(rt: &HostRuntime, system: Option<System>) -> io::Result<()> {
-    let Some(system) = system else {
+fn show(rt: &HostRuntime, system: Result<System, Memory>) -> io::Result<()> {
+    let Ok(system) = system else {
         return Ok(());
     };
     let Some(listing) = list(rt.alloc(), &system) else {
@@ -68,7 +70,7 @@ fn show(rt: &HostRuntime, system: Option<System>) -> io::Result<()> {
 
 /// Checks the certificate of the bracket's upper bound, or one of which a step names itself.
 fn show_check(rt: &HostRuntime, names_itself: bool) -> io::Result<()> {
-    let Some(system) = forward::bracket(rt.alloc()) else {
+    let Ok(system) = forward::bracket(rt.alloc()) else {
         return Ok(());
     };
     let Some(listing) = list(rt.alloc(), &system) else {
@@ -112,7 +114,7 @@ fn sum_of(alloc: Global, listing: &Listing) -> Result<u32, AllocError> {
 }
 
 fn show_made(rt: &HostRuntime, counter: u32) -> io::Result<()> {
-    let Some(system) = made::system(rt.alloc(), counter) else {
+    let Ok(system) = make_system(rt.alloc(), counter) else {
         return Ok(());
     };
     let Some(listing) = list(rt.alloc(), &system) else {
@@ -127,9 +129,18 @@ fn show_made(rt: &HostRuntime, counter: u32) -> io::Result<()> {
     )
 }
 
+/// 90 atoms: 86 entries of one array, which is strictly rising and injective, with 7,396 instances of
+/// equal arguments, 29,584 of the order and 7,396 of equal entries.
+fn large_system(alloc: Global) -> Result<System, Memory> {
+    let mut system = many_entries(alloc, 86)?;
+    system.push_prop(2, PropKind::Strict(PTR))?;
+    system.push_prop(3, PropKind::Injective(PTR))?;
+    Ok(system)
+}
+
 /// How many atoms and instances there are, and the least number of nanoseconds of several turns.
 fn time(rt: &HostRuntime, turns: u32) -> io::Result<()> {
-    let Some(system) = large::system(rt.alloc()) else {
+    let Ok(system) = large_system(rt.alloc()) else {
         return Ok(());
     };
     let mut least = u128::MAX;
@@ -159,7 +170,7 @@ fn turns(words: &[String]) -> Option<u32> {
 
 fn show_all(rt: &HostRuntime) -> io::Result<()> {
     println!(rt; "relation 10:1 12:2")?;
-    show(rt, forward::relation(rt.alloc()))?;
+    show(rt, forward::relation(rt.alloc(), true))?;
     println!(rt; "bracket 12:4")?;
     show(rt, forward::bracket(rt.alloc()))?;
     show_check(rt, false)?;

@@ -15,7 +15,7 @@ use Rattle.index_props.specs.Derivable.{Derivable}
 use Rattle.index_props.specs.Derivable.Derivable.{given, same, joined, weaker, fired}
 use Rattle.index_props.specs.Rules.{instances_of}
 use Rattle.index_props.specs.Sound.{Follows, AllNameIndexes}
-use Rattle.index_props.proofs.AllSound.{all_follow}
+use Rattle.rule_laws.proofs.AllSound.{all_follow}
 use Rattle.cert_check.specs.Answer.{IsTrueFor}
 
 module _ (u : List Atom) (base : List Diff) (rules : List RuleInst) (a : Lists) (env : List Binding) (follow : All (Follows a env) rules) (hold : AllHold a env base) where

@@ -3,6 +3,4 @@
 
 pub mod check;
 pub mod refusal;
-pub mod step;
-#[cfg(test)]
-mod tests;
+mod step;

@@ -1,7 +1,7 @@
 // Why a certificate is refused.
 use wave_base::types::Memory;
 
-/// The number of the first step that is none, or want of memory.
+/// The number of the first step that is none, or out of memory.
 #[derive(Clone, Copy, Debug, PartialEq, Eq)]
 pub enum CertRefusal {
     BadStep { at: u64 },
@@ -14,7 +14,7 @@ impl From<Memory> for CertRefusal {
 
     ghost from_gives = { λ _ e. e ≡ Memory };
 
-    fn from(_wanting: Memory) -> CertRefusal {
+    fn from(_out: Memory) -> CertRefusal {
         CertRefusal::Memory
     }
 }

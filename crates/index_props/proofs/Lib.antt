@@ -1,8 +1,2 @@
-pub mod AllOver
-pub mod AllSound
-pub mod Every
-pub mod Plainly
 pub mod Pushed
-pub mod Soundness
-mod Steps
-mod Values
+pub mod Steps

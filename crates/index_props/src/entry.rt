@@ -93,6 +93,27 @@ impl Entry {
         })
     }
 
+    /// The entry of an array at a copy of an argument.
+    pub fn at(alloc: Global, decls: &[Decl], array: ArrayId, index: &Term) -> Result<Entry, Memory>
+        requires { unsigned_abs index.now.plus ≤ 2 ^ 23 }
+        ensures { IfOk result (λ e. e ≡ entry_of decls.now array index.now) }
+    {
+        Entry::of(alloc, decls, array, copy_term(alloc, index)?)
+    }
+
+    /// The entry of an array at the argument that is greater by 1.
+    pub fn after(
+        alloc: Global,
+        decls: &[Decl],
+        array: ArrayId,
+        index: &Term,
+    ) -> Result<Entry, Memory>
+        requires { unsigned_abs index.now.plus ≤ 2 ^ 22 }
+        ensures { IfOk result (λ e. e ≡ entry_of decls.now array (next index.now)) }
+    {
+        Entry::of(alloc, decls, array, next_term(alloc, index)?)
+    }
+
     /// An equal entry.
     pub fn copy(&self, alloc: Global) -> Result<Entry, Memory>
         ensures { IfOk result (λ e. e ≡ self.now) }

@@ -1,11 +1,11 @@
 // The segments of an array, and the instances at them.
-ghost use Rattle.std.specs.Prelude.{◌≡◌, ◌≤◌, ◌^◌, ◌++◌, [], ◌∷◌, map, unsigned_abs, OnOk, IfOk};
+ghost use Rattle.std.specs.Prelude.{◌≡◌, ◌≤◌, ◌^◌, ◌++◌, map, unsigned_abs, OnOk, IfOk};
 ghost use Rattle.index_props.specs.Rules.{segments as segments_of, segment_from, sorted_instance as sorted, sorted_instances, sorted_from, limit_instance as limited, limit_instances};
 ghost use Rattle.index_props.specs.Within.{EntriesWithin};
 
-use crate::entry::{Entry, Segment, next_term};
+use crate::entry::{Entry, Segment};
 use crate::groups::{has_next, of_array};
-use crate::lines::{limit_instance, sorted_instance};
+use crate::lines::{push_limit_instance, push_sorted_instance};
 use crate::rule::{Order, RuleInst};
 use loop_core::decl::Decl;
 use sqlite_items::Items;
@@ -44,7 +44,7 @@ fn push_segment(
     if !has_next(alloc, es, p, start.index())? {
         return Ok(());
     }
-    let stop = Entry::of(alloc, decls, p, next_term(alloc, start.index())?)?;
+    let stop = Entry::after(alloc, decls, p, start.index())?;
     let start = start.copy(alloc)?;
     into.push(Segment::of(start, stop))?;
     Ok(())
@@ -93,23 +93,8 @@ fn push_sorted_at(
     ensures { OnOk result (into.new ≡ into.old ++ map (sorted order s.now t.now) gs.now) }
 {
     for g in gs {
-        push_sorted_one(alloc, order, s, t, g, into)?;
+        push_sorted_instance(alloc, order, s, t, g, into)?;
     }
-    Ok(())
-}
-
-fn push_sorted_one(
-    alloc: Global,
-    order: Order,
-    s: &Entry,
-    t: &Entry,
-    g: &Segment,
-    into: &mut Items<RuleInst>,
-) -> Result<(), Memory>
-    ensures { OnOk result (into.new ≡ into.old ++ sorted order s.now t.now g.now ∷ []) }
-{
-    let one = sorted_instance(alloc, order, s, t, g)?;
-    into.push(one)?;
     Ok(())
 }
 
@@ -139,7 +124,7 @@ fn push_limits_at(
     ensures { OnOk result (into.new ≡ into.old ++ map (limited strict e.now) gs.now) }
 {
     for g in gs {
-        into.push(limit_instance(alloc, strict, e, g)?)?;
+        push_limit_instance(alloc, strict, e, g, into)?;
     }
     Ok(())
 }

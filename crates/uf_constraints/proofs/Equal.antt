@@ -1,5 +1,5 @@
 -- The test of equality of atoms and terms is exact.
-use Rattle.std.proofs.Common.{ℕ, ℤ, ◌≡◌, ◌==◌, ◌&&◌, Bool, true, false, List, [], ◌∷◌, refl, sym, ap, ◌∙◌, subst, rules, arith, zero, suc}
+use Rattle.std.proofs.Common.{IsTrue, ◌↔◌, ℕ, ℤ, ◌≡◌, ◌==◌, ◌&&◌, Bool, true, false, List, [], ◌∷◌, refl, sym, ap, ◌∙◌, subst, rules, arith, zero, suc}
 use Rattle.std.specs.Prelude.{◌||◌}
 use Rattle.std.specs.List.{Contains}
 use Rattle.std.specs.Ordering.{int_eq}
@@ -193,3 +193,17 @@ pub is_among : (atoms : List Atom) (a : Atom) → Contains atoms a → is_listed
 is_among [] a (k, l, e) = absurd (omega arith)
 is_among (b ∷ atoms) a (zero, l, e) = or_left (same_atom a b) (is_listed atoms a) (subst (λ c. same_atom a c ≡ true) (sym e) (same_itself a))
 is_among (b ∷ atoms) a (suc k, l, e) = or_right (same_atom a b) (is_listed atoms a) (is_among atoms a (k, omega arith, e))
+
+-- another test of equality gives the same answers
+same_answer : (p q : Bool) → (p ≡ true → q ≡ true) → (q ≡ true → p ≡ true) → p ≡ q
+same_answer true q forth back = sym (forth refl)
+same_answer false true forth back = back refl
+same_answer false false forth back = refl
+
+pub atom_test : (r : Bool) (a b : Atom) → (IsTrue r ↔ (a ≡ b)) → r ≡ same_atom a b
+atom_test r a b h =
+    same_answer r (same_atom a b) (λ t. subst (λ x. same_atom a x ≡ true) (h.0 t) (same_itself a)) (λ t. h.1 (atom_is a b t))
+
+pub term_test : (r : Bool) (t u : Term) → (IsTrue r ↔ (t ≡ u)) → r ≡ same_term t u
+term_test r t u h =
+    same_answer r (same_term t u) (λ e. subst (λ x. same_term t x ≡ true) (h.0 e) (same_term_itself t)) (λ e. h.1 (same_term_is t u e))

@@ -2,16 +2,10 @@
 #![tactic(auto)]
 
 pub mod env;
-pub mod listing;
-#[cfg(test)]
-mod made;
+mod listing;
 pub mod plain;
 pub mod same;
 pub mod small;
-#[cfg(test)]
-mod spent;
 pub mod system;
-#[cfg(test)]
-mod tests;
 pub mod truth;
 pub mod universe;

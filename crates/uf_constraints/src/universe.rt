@@ -18,7 +18,7 @@ use sqlite_items::{Boxed, Items};
 use std::alloc::Global;
 use wave_base::types::{ArrayId, Memory};
 
-/// Why there is no universe: more than 96 atoms are due, or memory is wanting.
+/// Why there is no universe: more than 96 atoms are due, or out of memory.
 #[derive(Clone, Copy, Debug, PartialEq, Eq)]
 pub enum UniverseRefusal {
     TermsFull { count: u64 },
@@ -31,7 +31,7 @@ impl From<Memory> for UniverseRefusal {
 
     ghost from_gives = { λ _ e. e ≡ Memory };
 
-    fn from(_wanting: Memory) -> UniverseRefusal {
+    fn from(_out: Memory) -> UniverseRefusal {
         UniverseRefusal::Memory
     }
 }

@@ -1,5 +1,0 @@
-use Rattle.index_props.proofs.AllOver.{all_over}
-use Rattle.index_props.proofs.laws.instances_are_over.Goals as goal
-
-pub returns : goal.returns
-returns c = λ decls props atoms names closed. all_over decls atoms closed props names

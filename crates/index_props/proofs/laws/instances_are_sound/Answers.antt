@@ -1,5 +1,0 @@
-use Rattle.index_props.proofs.AllSound.{all_follow}
-use Rattle.index_props.proofs.laws.instances_are_sound.Goals as goal
-
-pub returns : goal.returns
-returns c = λ decls props atoms names a env lengths passes. all_follow decls atoms props names a env lengths passes

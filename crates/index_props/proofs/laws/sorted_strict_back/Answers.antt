@@ -1,5 +1,0 @@
-use Rattle.index_props.proofs.Soundness.{sorted_strict_back as law}
-use Rattle.index_props.proofs.laws.sorted_strict_back.Goals as goal
-
-pub returns : goal.returns
-returns c = law

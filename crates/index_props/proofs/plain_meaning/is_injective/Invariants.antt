@@ -1,7 +1,0 @@
-use Rattle.std.proofs.Common.{ℕ, ◌≡◌, ◌<◌, length}
-use Rattle.loop_core.specs.Lists.{list_of}
-use Rattle.index_props.specs.Meanings.{at}
-use Rattle.index_props.proofs.plain_meaning.is_injective.Given as goal
-
-abbrev pub invariant-loop-a : goal.invariant-loop-a
-invariant-loop-a g l = (j : ℕ) → j < l.a → (b : ℕ) → b < length (list_of l.arrays.lists l.f) → at (list_of l.arrays.lists l.f) j ≡ at (list_of l.arrays.lists l.f) b → j ≡ b

@@ -1,8 +1,0 @@
-use Rattle.std.proofs.Common.{◌≡◌, ◌++◌, map, take}
-use Rattle.std.specs.List.{flat_map}
-use Rattle.index_props.specs.Entries.{of_array}
-use Rattle.index_props.specs.Rules.{pair_instance}
-use Rattle.index_props.proofs.plain_pairs.push_pairs.Given as goal
-
-abbrev pub invariant-loop-s : goal.invariant-loop-s
-invariant-loop-s l = l.into ≡ l.fn.into ++ flat_map (λ s. map (pair_instance l.line s) (of_array l.f l.es)) (of_array l.f (take l.s-index l.es))
