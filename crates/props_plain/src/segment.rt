@@ -168,9 +168,28 @@ fn push_sorted_from(
     ensures { OnOk result (into.new
         ≡ into.old ++ map (sorted line s.now t.now) (flat_map (segment_from decls.now p es.now) (if_of p u.now))) }
 {
-    if u.array() != p {
-        return Ok(());
+    if u.array() == p {
+        push_sorted_begun(alloc, decls, line, p, s, t, u, es, into)
+    } else {
+        Ok(())
     }
+}
+
+fn push_sorted_begun(
+    alloc: Global,
+    decls: &[Decl],
+    line: Order,
+    p: ArrayId,
+    s: &Entry,
+    t: &Entry,
+    u: &Entry,
+    es: &[Entry],
+    into: &mut Items<RuleInst>,
+) -> Result<(), Memory>
+    requires { unsigned_abs u.now.index.plus ≤ 2 ^ 21 + 1 }
+    ensures { OnOk result
+        (into.new ≡ into.old ++ map (sorted line s.now t.now) (segment_from decls.now p es.now u.now)) }
+{
     if !has_next(alloc, es, p, u.index())? {
         return Ok(());
     }
@@ -253,9 +272,27 @@ fn push_limit_from(
     ensures { OnOk result (into.new
         ≡ into.old ++ map (limited strict e.now) (flat_map (segment_from decls.now p es.now) (if_of p u.now))) }
 {
-    if u.array() != p {
-        return Ok(());
+    if u.array() == p {
+        push_limit_begun(alloc, decls, strict, p, e, u, es, into)
+    } else {
+        Ok(())
     }
+}
+
+fn push_limit_begun(
+    alloc: Global,
+    decls: &[Decl],
+    strict: bool,
+    p: ArrayId,
+    e: &Entry,
+    u: &Entry,
+    es: &[Entry],
+    into: &mut Items<RuleInst>,
+) -> Result<(), Memory>
+    requires { unsigned_abs u.now.index.plus ≤ 2 ^ 21 + 1 }
+    ensures { OnOk result
+        (into.new ≡ into.old ++ map (limited strict e.now) (segment_from decls.now p es.now u.now)) }
+{
     if !has_next(alloc, es, p, u.index())? {
         return Ok(());
     }
