@@ -56,10 +56,14 @@ fn long(alloc: Global, front: &[u8], line: &[u8], times: u32, end: &[u8]) -> Res
 const FORWARD: &[u8] =
     b"matrix a csr\nvector b n file\nvector x n zero\nrange a.ptr 0 nnz+1\nrange a.col 0 n\nrising a.ptr\nsorted a.col by a.ptr\ndiagonal a.diag of a.col by a.ptr\nloop i\n  set x[i] = b[i]\n  for p in a.ptr[i]..a.diag[i]\n    set x[i] = x[i] - a.val[p] * x[a.col[p]]\n  end\nend\n";
 
+const MIXED: &[u8] =
+    b"index q n\nrange q 0-3 n-1\nmatrix a csc\nstrict a.ptr\nbefore q a.diag\nloop i\n  when 5 <= a.row[i+1]\n    when i-2 == nnz\n      set a.val[0] = (a.val[i] - 7) * a.val[q[i-1]+4] / (2 * 3) - (8 - (9 + 1)) + 6\n    end\n  end\nend\n";
+
 #[test]
 fn reads_loops(rt: HostRuntime) -> Result<(), Fail> {
-    let texts: [&[u8]; 6] = [
+    let texts: [&[u8]; 7] = [
         FORWARD,
+        MIXED,
         b"matrix a csr\nvector b n file\nvector x n zero\nrange a.ptr 0 nnz+1\nrange a.col 0 n\nrising a.ptr\nsorted a.col by a.ptr\ndiagonal a.diag of a.col by a.ptr\nloop i\n  set x[i] = b[i]\n  for p in a.ptr[i]..a.diag[i]\n    set x[i] = x[i] - a.val[p] * x[a.col[p]]\n  end\n  set x[i] = x[i] / a.val[a.diag[i]]\nend\n",
         b"matrix a csr\nvector b n file\nvector x n file\nrange a.ptr 0 nnz+1\nrange a.col 0 n\nrising a.ptr\nsorted a.col by a.ptr\ndiagonal a.diag of a.col by a.ptr\nloop i\n  set x[i] = b[i]\n  for p in a.ptr[i]..a.diag[i]\n    set x[i] = x[i] - a.val[p] * x[a.col[p]]\n  end\n  for p in a.diag[i]+1..a.ptr[i+1]\n    set x[i] = x[i] - a.val[p] * x[a.col[p]]\n  end\n  set x[i] = x[i] / a.val[a.diag[i]]\nend\n",
         b"matrix a csc\nvector x n file\nrange a.ptr 0 nnz+1\nrange a.row 0 n\nrising a.ptr\nsorted a.row by a.ptr\ndiagonal a.diag of a.row by a.ptr\nloop j\n  set x[j] = x[j] / a.val[a.diag[j]]\n  for p in a.diag[j]+1..a.ptr[j+1]\n    set x[a.row[p]] = x[a.row[p]] - a.val[p] * x[j]\n  end\nend\n",
@@ -157,32 +161,46 @@ fn refuses_names_of_loops(rt: HostRuntime) -> Result<(), Fail> {
     Ok(())
 }
 
+const SHORT: &[u8] = b"matrix a csr\nloop i\nend\n";
+
 #[test]
-fn counts_lines_and_arrays(rt: HostRuntime) -> Result<(), Fail> {
-    let alloc = rt.alloc();
-    let read = LoopRefusal::Memory;
-    let front = b"matrix a csr\nloop i\nend\n";
-    let text = long(alloc, front, b"\n", 397, b"")?;
-    assert_eq!(rt; refused(alloc, text.as_slice())?, read);
-    let text = long(alloc, front, b"\n", 398, b"")?;
+fn reads_400_lines(rt: HostRuntime) -> Result<(), Fail> {
+    let text = long(rt.alloc(), SHORT, b"\n", 397, b"")?;
+    assert_eq!(rt; refused(rt.alloc(), text.as_slice())?, LoopRefusal::Memory);
+    Ok(())
+}
+
+#[test]
+fn refuses_401_lines(rt: HostRuntime) -> Result<(), Fail> {
+    let text = long(rt.alloc(), SHORT, b"\n", 398, b"")?;
     assert_eq!(rt;
-        refused(alloc, text.as_slice())?,
+        refused(rt.alloc(), text.as_slice())?,
         limit(401, LimitKind::Lines)
     );
-    let text = long(alloc, front, b"\n", 70_000, b"loop j")?;
+    Ok(())
+}
+
+#[test]
+fn refuses_a_far_line_that_does_not_fit(rt: HostRuntime) -> Result<(), Fail> {
+    let text = long(rt.alloc(), SHORT, b"\n", 70_000, b"loop j")?;
     assert_eq!(rt;
-        refused(alloc, text.as_slice())?,
+        refused(rt.alloc(), text.as_slice())?,
         LoopRefusal::Text { line: 70_004 }
     );
+    Ok(())
+}
+
+#[test]
+fn refuses_a_far_name(rt: HostRuntime) -> Result<(), Fail> {
     let text = long(
-        alloc,
+        rt.alloc(),
         b"matrix a csr\nloop i\n",
         b"#\n",
         70_000,
         b"when j < n\nend\nend",
     )?;
     assert_eq!(rt;
-        refused(alloc, text.as_slice())?,
+        refused(rt.alloc(), text.as_slice())?,
         name(70_003, NameKind::Unknown)
     );
     Ok(())
@@ -323,38 +341,62 @@ fn counts_references(rt: HostRuntime) -> Result<(), Fail> {
     Ok(())
 }
 
+const LONG_FRONT: &[u8] = b"matrix a csr\nvector x n zero\nloop i\n";
+
+/// A front, so many guards and so many ends.
+fn guarded(alloc: Global, guards: u32, ends: u32) -> Result<Vec<u8>, Fail> {
+    let open = long(alloc, LONG_FRONT, b"when 0<n\n", guards, b"")?;
+    long(alloc, open.as_slice(), b"end\n", ends, b"")
+}
+
+/// A statement whose value is a number in so many parentheses.
+fn grouped(alloc: Global, depth: u32) -> Result<Vec<u8>, Fail> {
+    let open = long(alloc, LONG_FRONT, b"set x[i] = ", 1, b"")?;
+    let open = long(alloc, open.as_slice(), b"(", depth, b"1")?;
+    long(alloc, open.as_slice(), b")", depth, b"\nend")
+}
+
 #[test]
-fn goes_deep(rt: HostRuntime) -> Result<(), Fail> {
-    let alloc = rt.alloc();
-    let front = b"matrix a csr\nvector x n zero\nloop i\n";
-    let open = long(alloc, front, b"when 0<n\n", 198, b"")?;
-    let text = long(alloc, open.as_slice(), b"end\n", 199, b"")?;
-    assert_eq!(rt; refused(alloc, text.as_slice())?, LoopRefusal::Memory);
-    let text = long(alloc, front, b"when 0<n\n", 6_500, b"")?;
+fn reads_many_guards_in_one_another(rt: HostRuntime) -> Result<(), Fail> {
+    let text = guarded(rt.alloc(), 198, 199)?;
+    assert_eq!(rt; refused(rt.alloc(), text.as_slice())?, LoopRefusal::Memory);
+    Ok(())
+}
+
+#[test]
+fn refuses_guards_without_an_end(rt: HostRuntime) -> Result<(), Fail> {
+    let text = guarded(rt.alloc(), 6_500, 0)?;
     assert_eq!(rt;
-        refused(alloc, text.as_slice())?,
+        refused(rt.alloc(), text.as_slice())?,
         LoopRefusal::Text { line: 6_504 }
     );
-    let open = long(alloc, front, b"when 0<n\n", 6_500, b"")?;
-    let text = long(alloc, open.as_slice(), b"end\n", 6_501, b"")?;
+    Ok(())
+}
+
+#[test]
+fn refuses_guards_past_the_last_line(rt: HostRuntime) -> Result<(), Fail> {
+    let text = guarded(rt.alloc(), 6_500, 6_501)?;
     assert_eq!(rt;
-        refused(alloc, text.as_slice())?,
+        refused(rt.alloc(), text.as_slice())?,
         limit(401, LimitKind::Lines)
     );
-    let text = long(alloc, front, b"(", 200, b"\nend")?;
+    Ok(())
+}
+
+#[test]
+fn refuses_open_parentheses(rt: HostRuntime) -> Result<(), Fail> {
+    let text = long(rt.alloc(), LONG_FRONT, b"(", 200, b"\nend")?;
     assert_eq!(rt;
-        refused(alloc, text.as_slice())?,
+        refused(rt.alloc(), text.as_slice())?,
         LoopRefusal::Text { line: 4 }
     );
-    let open = long(
-        alloc,
-        b"matrix a csr\nvector x n zero\nloop i\nset x[i] = ",
-        b"(",
-        94,
-        b"1",
-    )?;
-    let text = long(alloc, open.as_slice(), b")", 94, b"\nend")?;
-    assert_eq!(rt; refused(alloc, text.as_slice())?, LoopRefusal::Memory);
+    Ok(())
+}
+
+#[test]
+fn reads_many_parentheses(rt: HostRuntime) -> Result<(), Fail> {
+    let text = grouped(rt.alloc(), 94)?;
+    assert_eq!(rt; refused(rt.alloc(), text.as_slice())?, LoopRefusal::Memory);
     Ok(())
 }
 
