@@ -4,6 +4,8 @@
 #[cfg(test)]
 mod certificates;
 #[cfg(test)]
+mod closure;
+#[cfg(test)]
 mod constraints;
 #[cfg(test)]
 mod instances;
