@@ -6,7 +6,6 @@ ghost use Rattle.array_bind.specs.Lists.{none_left, index_of, data_of, matrix_af
 use crate::files::Files;
 use crate::shape::size_length;
 use csr_arrays::compressed::Compressed;
-use csr_arrays::numbers::Numbers;
 use loop_core::decl::{DeclKind, Size, Source};
 use std::alloc::Global;
 use wave_base::types::Memory;
@@ -30,12 +29,6 @@ fn zeros(alloc: Global, size: Size, n: u32, nnz: u32) -> Result<Words, Memory>
 {
     let words = vec![in alloc; 0i64; size_length(size, n, nnz) as usize]?;
     Ok(Words::from_vec(words))
-}
-
-fn words_of(numbers: Numbers) -> Words
-    ensures { result ≡ numbers }
-{
-    Words::from_vec(numbers.into_vec())
 }
 
 /// Puts an index array.
@@ -69,20 +62,20 @@ fn put_matrix(alloc: Global, lists: &mut ArrayLists, matrix: Compressed) -> Resu
         diag,
         val,
     } = matrix;
-    put_index(alloc, lists, words_of(ptr))?;
-    put_index(alloc, lists, words_of(index))?;
-    put_index(alloc, lists, words_of(diag))?;
-    put_data(alloc, lists, words_of(val))
+    put_index(alloc, lists, ptr)?;
+    put_index(alloc, lists, index)?;
+    put_index(alloc, lists, diag)?;
+    put_data(alloc, lists, val)
 }
 
 fn none_left(alloc: Global) -> Compressed
     ensures { result ≡ none_left }
 {
     Compressed {
-        ptr: Numbers::from_vec(Vec::new(alloc)),
-        index: Numbers::from_vec(Vec::new(alloc)),
-        diag: Numbers::from_vec(Vec::new(alloc)),
-        val: Numbers::from_vec(Vec::new(alloc)),
+        ptr: no_words(alloc),
+        index: no_words(alloc),
+        diag: no_words(alloc),
+        val: no_words(alloc),
     }
 }
 
