@@ -59,6 +59,30 @@ def links():
         CASES.judge(f"links of {os.path.relpath(page, TOP)}", not wrong, ", ".join(wrong))
 
 
+def source_of(crate):
+    """The text of a crate's sources."""
+    texts = []
+    for folder, _, names in os.walk(os.path.join(TOP, "crates", crate, "src")):
+        texts += [text_of(os.path.join(folder, name)) for name in names if name.endswith(".rt")]
+    return "".join(texts)
+
+
+def names():
+    """Paths of calls and files of crates, as `crate::module::call` and `crates/NAME/..`."""
+    crates = set(os.listdir(os.path.join(TOP, "crates")))
+    for page in pages():
+        text = text_of(page)
+        wrong = []
+        for path in re.findall(r"`([a-z_]+(?:::[A-Za-z_]+)+)`", text):
+            crate, item = path.split("::")[0], path.split("::")[-1]
+            if crate in crates and not re.search(rf"\b(fn|struct|enum|trait|mod)\s+{item}\b", source_of(crate)):
+                wrong.append(path)
+        for path in re.findall(r"\bcrates/[a-z_]+/[A-Za-z_./]*\w", text):
+            if not os.path.exists(os.path.join(TOP, path)) and not path.split("/")[2] == "out":
+                wrong.append(path)
+        CASES.judge(f"names in {os.path.relpath(page, TOP)}", not wrong, ", ".join(wrong))
+
+
 def made():
     for tool in ("map.py", "faults.py", "picture.py"):
         status, out, err = call([os.path.join(TOP, "tools", tool), "--check"])
@@ -178,6 +202,7 @@ def scipy_lines():
 def main():
     program = program_of(sys.argv)
     links()
+    names()
     made()
     manual()
     shell_lines()
