@@ -48,12 +48,27 @@ fn compared(
     plain: Result<Universe, UniverseRefusal>,
 ) -> Result<Result<usize, UniverseRefusal>, Fail> {
     match (quick, plain) {
-        (Ok(u), Ok(v)) if same_atoms(u.atoms.as_slice(), v.atoms.as_slice()) => {
-            Ok(Ok(u.atoms.len()))
-        }
-        (Err(r), Err(s)) if r == s => Ok(Err(r)),
-        _ => Err("the two ways differ".into()),
+        (Ok(u), Ok(v)) => one_count(&u, &v),
+        (Err(r), Err(s)) => one_refusal(r, s),
+        _ => Err("one way refuses".into()),
     }
+}
+
+fn one_count(u: &Universe, v: &Universe) -> Result<Result<usize, UniverseRefusal>, Fail> {
+    if !same_atoms(u.atoms.as_slice(), v.atoms.as_slice()) {
+        return Err("the two ways list other atoms".into());
+    }
+    Ok(Ok(u.atoms.len()))
+}
+
+fn one_refusal(
+    r: UniverseRefusal,
+    s: UniverseRefusal,
+) -> Result<Result<usize, UniverseRefusal>, Fail> {
+    if r != s {
+        return Err("the two ways refuse otherwise".into());
+    }
+    Ok(Err(r))
 }
 
 // 0, n, nnz and i stand beside the entries
@@ -146,12 +161,7 @@ fn true_below<L: Ledger>(alloc: Global, below: i64, blank: Blank) -> Result<usiz
     let env = Env::of(Vec::new(alloc));
     let system = just_true(alloc, below)?;
     let mut steps = Steps::<L>::open(blank);
-    Ok(how_many_hold(
-        system.base.as_slice(),
-        &env,
-        &arrays,
-        &mut steps,
-    ))
+    Ok(how_many_hold(system.base.as_slice(), &env, &arrays, &mut steps))
 }
 
 #[test]
