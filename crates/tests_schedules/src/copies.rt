@@ -31,34 +31,41 @@ fn sched_of_one(alloc: Global) -> Result<Sched, Memory> {
     })
 }
 
-#[test]
-fn a_copy_has_all_waits(rt: HostRuntime) -> Result<(), Fail> {
-    let sched = sched_of_one(rt.alloc())?;
-    let copy = sched.copy(rt.alloc())?;
-    let mut text = String::new(rt.alloc());
-    push_sched(rt.alloc(), &mut text, &copy)?;
-    assert_eq!(rt; text.as_str(), " worker task 2 3 5 0:7 1:7 2:7 3:7 4:7 5:7");
-    assert_eq!(rt; copy.workers.into_vec().len(), 1);
-    Ok(())
+fn copy_shown(alloc: Global) -> Result<String, Memory> {
+    let sched = sched_of_one(alloc)?;
+    let copy = sched.copy(alloc)?;
+    let mut text = String::new(alloc);
+    push_sched(alloc, &mut text, &copy)?;
+    Ok(text)
 }
 
 #[test]
-fn a_copy_of_rows_has_all_rows(rt: HostRuntime) -> Result<(), Fail> {
-    let rows = RowList::from_slice(rt.alloc(), [RowId(3), RowId(5)].as_slice())?;
-    let copy = RowList::from_vec(rows.copy(rt.alloc())?.into_vec());
-    assert_eq!(rt; copy.as_slice(), [RowId(3), RowId(5)].as_slice());
+fn a_copy_has_all_waits(rt: HostRuntime) -> Result<(), Fail> {
+    let text = copy_shown(rt.alloc())?;
+    assert_eq!(rt; text.as_str(), " worker task 2 3 5 0:7 1:7 2:7 3:7 4:7 5:7");
     Ok(())
+}
+
+// Tasks of one worker who has none.
+fn no_tasks(alloc: Global) -> Result<Tasks, Memory> {
+    let none = RowTaskList::new(alloc).into_vec();
+    let mut lists = Vec::new(alloc);
+    lists.push(RowTaskList::from_vec(none))?;
+    Ok(Tasks {
+        workers: RowTaskLists::from_vec(lists),
+    })
+}
+
+fn share_schedules(alloc: Global) -> Result<usize, Memory> {
+    let sched = sched_of_one(alloc)?;
+    let tasks = no_tasks(alloc)?;
+    all_are_shared(&sched, &tasks);
+    Ok(tasks.workers.into_vec().len())
 }
 
 #[test]
 fn threads_may_share_schedules(rt: HostRuntime) -> Result<(), Fail> {
-    let sched = sched_of_one(rt.alloc())?;
-    let mut lists = Vec::new(rt.alloc());
-    lists.push(RowTaskList::from_vec(RowTaskList::new(rt.alloc()).into_vec()))?;
-    let tasks = Tasks {
-        workers: RowTaskLists::from_vec(lists),
-    };
-    all_are_shared(&sched, &tasks);
-    assert_eq!(rt; tasks.workers.into_vec().len(), 1);
+    let many = share_schedules(rt.alloc())?;
+    assert_eq!(rt; many, 1);
     Ok(())
 }

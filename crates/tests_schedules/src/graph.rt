@@ -1,4 +1,7 @@
 // Which rows stand before each row.
+ghost use Rattle.std.specs.Prelude.{◌<◌, All};
+ghost use Rattle.wave_base.specs.declared.types.RowId.{RowId};
+
 use crate::shown::push_rows;
 use row_graph::buckets::by_key;
 use row_graph::firsts::firsts_of_each;
@@ -11,9 +14,9 @@ use std::alloc::Global;
 use std::test::Fail;
 use wave_base::types::{Memory, RowId};
 
-// The rows before each row.
+// The number of pairs, and the rows before each row.
 fn preds_shown(alloc: Global, preds: &Preds) -> Result<String, Memory> {
-    let mut text = String::new(alloc);
+    let mut text = format!(in alloc; "edges {}", preds.edges())?;
     for row in 0..preds.rows() {
         text.push_str(" before")?;
         push_rows(alloc, &mut text, preds.before(RowId(row)))?;
@@ -31,31 +34,34 @@ fn lists_shown(alloc: Global, lists: &Lists) -> Result<String, Memory> {
     Ok(text)
 }
 
+// The same by the quick way.
+fn quick(alloc: Global, rows: u32, pairs: Vec<(RowId, RowId)>) -> Result<String, Memory>
+    requires earlier { All (λ (p : RowId × RowId). p.0.0 < p.1.0) pairs.items }
+    requires below { All (λ (p : RowId × RowId). p.1.0 < rows) pairs.items }
+{
+    let preds = Preds::of(alloc, rows, pairs)?;
+    preds_shown(alloc, &preds)
+}
+
 #[test]
 fn rows_before_each_row(rt: HostRuntime) -> Result<(), Fail> {
-    let preds = Preds::of(rt.alloc(), 6, forward_substitution(rt.alloc())?)?;
+    let text = quick(rt.alloc(), 6, forward_substitution(rt.alloc())?)?;
     assert_eq!(rt;
-        preds_shown(rt.alloc(), &preds)?.as_str(),
-        " before before before 0 1 before 0 1 before 0 1 2 3 before 0 1 2 3"
+        text.as_str(),
+        "edges 12 before before before 0 1 before 0 1 before 0 1 2 3 before 0 1 2 3"
     );
-    assert_eq!(rt; preds.edges(), 12);
     Ok(())
 }
 
 #[test]
 fn a_pair_that_repeats_counts_once(rt: HostRuntime) -> Result<(), Fail> {
-    let preds = Preds::of(rt.alloc(), 4, by_columns(rt.alloc())?)?;
-    assert_eq!(rt;
-        preds_shown(rt.alloc(), &preds)?.as_str(),
-        " before before before 1 before 1 2"
-    );
-    assert_eq!(rt; preds.edges(), 3);
+    let text = quick(rt.alloc(), 4, by_columns(rt.alloc())?)?;
+    assert_eq!(rt; text.as_str(), "edges 3 before before before 1 before 1 2");
     Ok(())
 }
 
-fn quick(alloc: Global, seed: u32) -> Result<String, Memory> {
-    let preds = Preds::of(alloc, seed % 14, made_pairs(alloc, seed, seed % 14)?)?;
-    preds_shown(alloc, &preds)
+fn made(alloc: Global, seed: u32) -> Result<String, Memory> {
+    quick(alloc, seed % 14, made_pairs(alloc, seed, seed % 14)?)
 }
 
 fn searched(alloc: Global, seed: u32) -> Result<String, Memory> {
@@ -67,46 +73,39 @@ fn searched(alloc: Global, seed: u32) -> Result<String, Memory> {
 #[test]
 fn quick_and_plain_ways_agree(rt: HostRuntime) -> Result<(), Fail> {
     for seed in 0..240u32 {
-        let fast = quick(rt.alloc(), seed)?;
+        let fast = made(rt.alloc(), seed)?;
         let slow = searched(rt.alloc(), seed)?;
         assert_eq!(rt; fast.as_str(), slow.as_str(), "at {seed}");
     }
     Ok(())
 }
 
-#[test]
-fn either_row_of_a_pair_may_be_the_lesser(rt: HostRuntime) -> Result<(), Fail> {
-    let pairs = vec![in rt.alloc();
+fn firsts_shown(alloc: Global) -> Result<String, Memory> {
+    let pairs = vec![in alloc;
         (RowId(2), RowId(0)),
         (RowId(1), RowId(2)),
         (RowId(0), RowId(2)),
     ]?;
-    let firsts = firsts_of_each(rt.alloc(), 3, pairs)?;
-    assert_eq!(rt;
-        lists_shown(rt.alloc(), &firsts)?.as_str(),
-        " list 2 list list 0 1"
-    );
+    let firsts = firsts_of_each(alloc, 3, pairs)?;
+    lists_shown(alloc, &firsts)
+}
+
+#[test]
+fn either_row_of_a_pair_may_be_the_lesser(rt: HostRuntime) -> Result<(), Fail> {
+    let text = firsts_shown(rt.alloc())?;
+    assert_eq!(rt; text.as_str(), " list 2 list list 0 1");
     Ok(())
+}
+
+fn keyed_shown(alloc: Global) -> Result<String, Memory> {
+    let entries = [(2, RowId(4)), (0, RowId(7)), (2, RowId(1))];
+    let rows = by_key(alloc, 3, entries.as_slice())?;
+    lists_shown(alloc, &rows)
 }
 
 #[test]
 fn rows_by_their_keys(rt: HostRuntime) -> Result<(), Fail> {
-    let entries = [(2, RowId(4)), (0, RowId(7)), (2, RowId(1))];
-    let rows = by_key(rt.alloc(), 3, entries.as_slice())?;
-    assert_eq!(rt;
-        lists_shown(rt.alloc(), &rows)?.as_str(),
-        " list 7 list list 4 1"
-    );
-    assert_eq!(rt; rows.total(), 3);
-    Ok(())
-}
-
-#[test]
-fn lists_one_after_another(rt: HostRuntime) -> Result<(), Fail> {
-    let none = Lists::none(rt.alloc())?;
-    assert_eq!(rt; none.is_empty(), true);
-    let lists = none.with_list([RowId(3), RowId(1)].as_slice())?;
-    assert_eq!(rt; lists.is_empty(), false);
-    assert_eq!(rt; lists_shown(rt.alloc(), &lists)?.as_str(), " list 3 1");
+    let text = keyed_shown(rt.alloc())?;
+    assert_eq!(rt; text.as_str(), " list 7 list list 4 1");
     Ok(())
 }

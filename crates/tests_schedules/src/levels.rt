@@ -60,21 +60,30 @@ fn searched(alloc: Global, preds: &Preds) -> Result<String, Memory> {
     levels_shown(alloc, preds, &levels, chain.as_slice())
 }
 
+fn forward_levels(alloc: Global) -> Result<String, Memory> {
+    let preds = Preds::of(alloc, 6, forward_substitution(alloc)?)?;
+    quick(alloc, &preds)
+}
+
 #[test]
 fn levels_of_forward_substitution(rt: HostRuntime) -> Result<(), Fail> {
-    let preds = Preds::of(rt.alloc(), 6, forward_substitution(rt.alloc())?)?;
+    let text = forward_levels(rt.alloc())?;
     assert_eq!(rt;
-        quick(rt.alloc(), &preds)?.as_str(),
+        text.as_str(),
         " 0 0 1 1 2 2 rows 0 1 rows 2 3 rows 4 5 chain 0 2 4"
     );
     Ok(())
 }
 
+fn made_preds(alloc: Global, seed: u32) -> Result<Preds, Memory> {
+    let pairs = made_pairs(alloc, seed, seed % 14)?;
+    Preds::of(alloc, seed % 14, pairs)
+}
+
 #[test]
 fn quick_and_plain_ways_agree(rt: HostRuntime) -> Result<(), Fail> {
     for seed in 0..240u32 {
-        let pairs = made_pairs(rt.alloc(), seed, seed % 14)?;
-        let preds = Preds::of(rt.alloc(), seed % 14, pairs)?;
+        let preds = made_preds(rt.alloc(), seed)?;
         let fast = quick(rt.alloc(), &preds)?;
         let slow = searched(rt.alloc(), &preds)?;
         assert_eq!(rt; fast.as_str(), slow.as_str(), "at {seed}");

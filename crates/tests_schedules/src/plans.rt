@@ -79,14 +79,19 @@ fn no_rows(rt: HostRuntime) -> Result<(), Fail> {
     Ok(())
 }
 
-#[test]
-fn one_row_and_many_workers(rt: HostRuntime) -> Result<(), Fail> {
-    let text = planned(rt.alloc(), 1, Vec::new(rt.alloc()), 64)?;
-    let mut wanted = String::new(rt.alloc());
+fn one_row_wanted(alloc: Global) -> Result<String, Memory> {
+    let mut wanted = String::new(alloc);
     wanted.push_str("edges 0 levels 1 cross 0 chain 0 worker task 0 0")?;
     for _ in 0..63 {
         wanted.push_str(" worker")?;
     }
+    Ok(wanted)
+}
+
+#[test]
+fn one_row_and_many_workers(rt: HostRuntime) -> Result<(), Fail> {
+    let text = planned(rt.alloc(), 1, Vec::new(rt.alloc()), 64)?;
+    let wanted = one_row_wanted(rt.alloc())?;
     assert_eq!(rt; text.as_str(), wanted.as_str());
     Ok(())
 }
@@ -101,16 +106,24 @@ fn rows_without_pairs(rt: HostRuntime) -> Result<(), Fail> {
     Ok(())
 }
 
+// How much the plan of a grid of 100 by 100 points has.
+fn grid_counts(alloc: Global) -> Result<String, Memory> {
+    let pairs = pairs(alloc, Shape::Grid, 10000, 100)?;
+    let built = build(alloc, 10000, pairs, 4)?;
+    let (tasks, waits) = tasks_and_waits(&built.sched);
+    let chain = built.chain.as_slice().len();
+    Ok(format!(in alloc;
+        "edges {} levels {} chain {chain} tasks {tasks} cross {} waits {waits}",
+        built.edges, built.levels, built.cross
+    )?)
+}
+
 #[test]
 fn a_grid_of_100_by_100(rt: HostRuntime) -> Result<(), Fail> {
-    let pairs = pairs(rt.alloc(), Shape::Grid, 10000, 100)?;
-    let built = build(rt.alloc(), 10000, pairs, 4)?;
-    let (tasks, waits) = tasks_and_waits(&built.sched);
-    assert_eq!(rt; built.edges, 19800);
-    assert_eq!(rt; built.levels, 199);
-    assert_eq!(rt; built.chain.as_slice().len(), 199);
-    assert_eq!(rt; tasks, 784);
-    assert_eq!(rt; built.cross, 588);
-    assert_eq!(rt; waits, 588);
+    let text = grid_counts(rt.alloc())?;
+    assert_eq!(rt;
+        text.as_str(),
+        "edges 19800 levels 199 chain 199 tasks 784 cross 588 waits 588"
+    );
     Ok(())
 }

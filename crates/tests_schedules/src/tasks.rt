@@ -36,12 +36,17 @@ fn searched(alloc: Global, levels: &Levels, workers: u32) -> Result<String, Memo
     tasks_shown(alloc, &tasks)
 }
 
+fn columns_tasks(alloc: Global) -> Result<String, Memory> {
+    let preds = Preds::of(alloc, 4, by_columns(alloc)?)?;
+    let levels = levels(alloc, &preds)?;
+    quick(alloc, &levels, 2)
+}
+
 #[test]
 fn tasks_of_substitution_by_columns(rt: HostRuntime) -> Result<(), Fail> {
-    let preds = Preds::of(rt.alloc(), 4, by_columns(rt.alloc())?)?;
-    let levels = levels(rt.alloc(), &preds)?;
+    let text = columns_tasks(rt.alloc())?;
     assert_eq!(rt;
-        quick(rt.alloc(), &levels, 2)?.as_str(),
+        text.as_str(),
         " worker level 0 0 level 1 2 level 2 3 worker level 0 1"
     );
     Ok(())
