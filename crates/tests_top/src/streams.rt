@@ -49,9 +49,21 @@ fn a_full_output_keeps_a_first_part(rt: HostRuntime) -> Result<(), Fail> {
 fn streams_that_take_a_byte_at_once_get_all(rt: HostRuntime) -> Result<(), Fail> {
     let alloc = rt.alloc();
     let lib = library(alloc, &FILES, &[])?;
-    let outcome = call_over(&rt, &RUN, lib, stream(alloc, 1000, 1)?, stream(alloc, 100, 1)?)?;
+    let outcome = call_over(
+        &rt,
+        &RUN,
+        lib,
+        stream(alloc, 1000, 1)?,
+        stream(alloc, 100, 1)?,
+    )?;
     let lib = library(alloc, &[], &[])?;
-    let refused = call_over(&rt, &RUN, lib, stream(alloc, 1000, 1)?, stream(alloc, 100, 1)?)?;
+    let refused = call_over(
+        &rt,
+        &RUN,
+        lib,
+        stream(alloc, 1000, 1)?,
+        stream(alloc, 100, 1)?,
+    )?;
     assert!(rt; outcome.is(0, "array x 3\n1\n0\n3\n", ""));
     assert!(rt; refused.is(7, "", "read word 1\n"));
     Ok(())
@@ -72,7 +84,13 @@ fn a_fault_line_is_put_at_once(rt: HostRuntime) -> Result<(), Fail> {
 fn a_failing_error_stream_changes_no_answer(rt: HostRuntime) -> Result<(), Fail> {
     let alloc = rt.alloc();
     let lib = library(alloc, &[], &[])?;
-    let outcome = call_over(&rt, &RUN, lib, stream(alloc, 1000, 1000)?, stream(alloc, 6, 4)?)?;
+    let outcome = call_over(
+        &rt,
+        &RUN,
+        lib,
+        stream(alloc, 1000, 1000)?,
+        stream(alloc, 6, 4)?,
+    )?;
     assert!(rt; outcome.is(7, "", "read w"));
     Ok(())
 }
