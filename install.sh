@@ -5,7 +5,7 @@
 # The program is built first where it isn't there; WAVE_PROGRAM=FILE takes another one.
 #   PREFIX/bin/wave                 the launcher
 #   PREFIX/lib/wave/wave            the program
-#   PREFIX/share/wave/              fault lines, pages, examples
+#   PREFIX/share/wave/              fault lines, pages, examples, and the tools for Python and matrix files
 #   PREFIX/share/man/man1/wave.1    the man page
 #   PREFIX/share/bash-completion, zsh/site-functions, fish/vendor_completions.d
 set -u
@@ -49,5 +49,10 @@ put 644 "$top/docs/use/wave.fish" "$share/fish/vendor_completions.d"
 for file in "$top"/examples/*/*.loop "$top"/examples/*/*.mtx; do
     folder=${file%/*}
     put 644 "$file" "$share/wave/examples/${folder##*/}"
+done
+put 755 "$top/examples/gauss_seidel/sweeps.sh" "$share/wave/examples/gauss_seidel"
+put 644 "$top/tools/wave.py" "$share/wave/tools"
+for tool in check_matrix to_mtx; do
+    put 755 "$top/tools/$tool" "$share/wave/tools"
 done
 echo "wave is installed: $1/bin/wave"

@@ -36,7 +36,7 @@ static int is_word(span w, const char *text) {
   return 1;
 }
 
-/* the next line without its end; the cursor goes behind it */
+/* the next line without its end; the cursor goes after it */
 static span next_line(cursor *c) {
   const uint8_t *feed = memchr(c->at, '\n', (size_t)(c->end - c->at));
   span l = {c->at, feed ? feed : c->end};
@@ -95,7 +95,7 @@ static const uint8_t *digits(const uint8_t *p, const uint8_t *end, uint64_t *out
   return p == from ? NULL : p;
 }
 
-/* a plain entry line, read byte by byte: the place behind it, or a null pointer that says nothing */
+/* a plain entry line, read byte by byte: the place after it, or a null pointer that says nothing */
 static const uint8_t *plain(const uint8_t *p, const uint8_t *end, int pattern, int64_t n[3]) {
   uint64_t v;
   while (p < end && blank(*p)) p++;
@@ -208,9 +208,9 @@ static enum cause read_matrix(const uint8_t *bytes, size_t length, matrix *m, ui
   m->columns = (uint32_t)size[1];
   while (c.at < c.end) {
     *detail = ++c.line;
-    const uint8_t *behind = plain(c.at, c.end, pattern, n);
-    if (behind) {
-      c.at = behind;
+    const uint8_t *after = plain(c.at, c.end, pattern, n);
+    if (after) {
+      c.at = after;
       if (pattern) n[2] = 1;
     } else {
       cause = by_words(next_line(&c), pattern, n, &skipped);

@@ -1,7 +1,7 @@
 #!/bin/sh
 # Proves the crates that the program stands on, several side by side, and then builds the program.
 #
-# usage: tools/build.sh            proves and builds; what it does is told on standard error
+# usage: tools/build.sh            proves and builds; says on standard error what it does
 #        tools/build.sh --crates   prints the names of these crates, each after those that it uses
 # A crate's log is .build/NAME.log in the top folder. As many crates are proved side by side as there are
 # processors, or as WAVE_JOBS says.
@@ -148,7 +148,7 @@ if [ "${1:-}" = --crates ]; then
     exit
 fi
 if ! command -v rt >/dev/null 2>&1; then
-    say "the program isn't built, and \`rt\`, the command of the Rattle toolchain that proves and builds it, isn't on the path: see $top/CONTRIBUTING.md"
+    say "the program isn't built from these sources, and \`rt\`, the command of the Rattle toolchain that proves and builds it, isn't on the path: see $top/CONTRIBUTING.md"
     exit 1
 fi
 
@@ -169,7 +169,7 @@ started=
 begun=0
 from=$(date +%s)
 say "the program isn't built, or a source is newer. Each function is proved before the program is built:"
-say "$count crates, from scratch about 12 minutes on four processors; only what changed is proved again."
+say "$count crates, from scratch about 10 minutes on four processors; only what changed is proved again."
 say "The logs are $logs/NAME.log."
 while ! [ -f "$logs/wave.done" ]; do
     if ls "$logs"/*.failed >/dev/null 2>&1; then

@@ -18,7 +18,8 @@ HEAD = """# The crates
 
 A crate is a folder of [crates/](../../crates), and stands on the crates beside it in the table; the
 lowest ones come first. A library has a page of its own in its folder. Crates in *italics* are part of the
-program so far: `wave` stands on them. `bench_` crates are programs that measure, `tests_` crates hold tests.
+program so far: `wave` stands on them. `bench_` crates are programs that measure,
+`tests_` crates hold tests, and `_samples` crates make cases for both.
 In each crate `src/` has the code with its contracts, `specs/` the definitions that they cite
 ([DEFINITIONS.md](DEFINITIONS.md)), `proofs/` what was written of the proofs, `must-fail/` edits that the
 prover has to refuse. This page is made by [tools/map.py](../../tools/map.py).

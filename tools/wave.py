@@ -13,7 +13,8 @@ What `wave` refuses is raised as a Fault, whose text has the cause and the remed
 
 usage: tools/wave.py LOOP MATRIX [FILE..]     prints the arrays as JSON
 
-Standard library only. `wave` is the launcher in the folder above, and else that on the path.
+Standard library only. It calls the launcher of the repository or prefix that it lies in, and else `wave` on the
+path.
 """
 import json
 import os
@@ -118,8 +119,8 @@ def parsed(text):
 
 def call(words):
     """What `wave` prints on these words, or a Fault."""
-    launcher = os.path.join(ABOVE, "wave")
-    program = launcher if os.path.isfile(launcher) else "wave"
+    places = [os.path.join(ABOVE, "wave"), os.path.join(ABOVE, "../../bin/wave")]
+    program = next((place for place in places if os.path.isfile(place)), "wave")
     environment = dict(os.environ, WAVE_HINT="1", NO_COLOR="1")
     with tempfile.TemporaryFile() as output:
         with subprocess.Popen(

@@ -2,7 +2,7 @@
 # Does many Gauss-Seidel sweeps: each starts from what the one before has printed.
 #
 # usage: examples/gauss_seidel/sweeps.sh NUMBER MATRIX RIGHT_SIDE START
-# It prints the last answer. WAVE names the command, if it isn't the one of this repository.
+# It prints the last answer.
 set -u
 
 here=$(CDPATH='' cd -- "$(dirname -- "$0")" && pwd -P) || exit 1
@@ -10,7 +10,11 @@ if [ $# -ne 4 ]; then
     sed -n 's/^# usage/usage/p' "$0" >&2
     exit 2
 fi
-wave=${WAVE:-$here/../../wave}
+# the launcher of the repository, of the prefix under which this script is installed, or on the path
+wave=wave
+for place in "$here/../../wave" "$here/../../../../bin/wave"; do
+    [ ! -f "$place" ] || wave=$place
+done
 scratch=${TMPDIR:-/tmp}/wave-sweeps.$$
 mkdir "$scratch" || exit 1
 trap 'rm -rf "$scratch"' EXIT
