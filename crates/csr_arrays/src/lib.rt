@@ -5,5 +5,6 @@ mod axis;
 mod bucketed;
 pub mod compressed;
 pub mod csr;
+pub mod plain;
 mod row;
 mod rows;
