@@ -93,6 +93,18 @@ def made():
     CASES.same("the loop of README.md", loops, [text_of(os.path.join(TOP, "examples/forward_divided/divided.loop"))])
 
 
+def helped():
+    """Each fault line of the table, with its cause, in the help of the launcher."""
+    status, out, err = call([os.path.join(TOP, "wave"), "--help"])
+    shown = " ".join(out.split())
+    wrong = []
+    for row in text_of(os.path.join(TOP, "docs/use/faults.tsv")).split("\n")[1:-1]:
+        code, line, _, pattern, cause, _ = row.split("\t")
+        if not pattern and f"{code} {line} {cause}" not in shown:
+            wrong.append(line)
+    CASES.judge("wave --help has the table of faults", status == 0 and not err and not wrong, ", ".join(wrong))
+
+
 def manual():
     page = os.path.join(TOP, "docs/use/wave.1")
     for words in (["groff", "-ww", "-t", "-man", "-Tutf8", page], ["man", "--warnings", "-l", page]):
@@ -204,6 +216,7 @@ def main():
     links()
     names()
     made()
+    helped()
     manual()
     shell_lines()
     scipy_lines()
