@@ -1,8 +1,8 @@
 // What each property says, by arrays that have it and arrays that lack it, at its edges.
-use props_plain::meaning::means;
 use loop_core::arrays::Arrays;
 use loop_core::decl::PropKind;
 use loop_core::nest::{Atom, Term};
+use props_plain::meaning::means;
 use std::alloc::Global;
 use std::process::Abort;
 use std::test::Fail;

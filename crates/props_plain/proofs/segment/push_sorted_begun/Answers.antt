@@ -11,5 +11,5 @@ returns c =
     let h = sorted_instance c.args.line c.args.s.now c.args.t.now in
     let found = subst (λ t. c.in_ok-has_next.field-0 ≡ has_entry c.args.es.now c.args.p (next t)) c.index.ensures.term c.in_ok-has_next.ensures in
     subst (λ more. OnOk c.push_sorted_instance.result (c.push_sorted_instance.new.into ≡ c.args.into.now ++ more))
-        (begun h c.args.decls.now c.args.p c.args.es.now c.args.u.now c.in_ok-has_next.field-0 c.in_ok-g.g found c.if-not-branch.false c.in_ok-g.ensures)
-        c.push_sorted_instance.ensures
+    (begun h c.args.decls.now c.args.p c.args.es.now c.args.u.now c.in_ok-has_next.field-0 c.in_ok-g.g found c.if-not-branch.false c.in_ok-g.ensures)
+    c.push_sorted_instance.ensures
