@@ -65,33 +65,40 @@ fn doubling(alloc: Global) -> Result<Nest, Fail> {
 fn a_nest_is_copied(rt: HostRuntime) -> Result<(), Fail> {
     let nest = doubling(rt.alloc())?;
     let copy = nest.copy(rt.alloc())?;
-    assert_eq!(rt; copy.line, 1);
-    assert_eq!(rt; copy.name.as_slice(), b"v".as_slice());
-    assert_eq!(rt; copy.decls.len(), 2);
     assert_eq!(rt; copy.props.len(), 1);
-    assert_eq!(rt; copy.body.len(), 1);
-    assert!(rt; copy.writes(ArrayId(5)));
-    assert!(rt; !copy.writes(ArrayId(1)));
     Ok(())
 }
 
 #[test]
-fn values_are_copied(rt: HostRuntime) -> Result<(), Fail> {
-    let alloc = rt.alloc();
+fn a_nest_writes_its_targets(rt: HostRuntime) -> Result<(), Fail> {
+    let nest = doubling(rt.alloc())?;
+    assert!(rt; nest.writes(ArrayId(5)) && !nest.writes(ArrayId(1)));
+    Ok(())
+}
+
+fn one_list(alloc: Global) -> Result<Values, Fail> {
     let mut lists = Vec::new(alloc);
     push_list(&mut lists, alloc, &[7, -8])?;
-    let mut values = Values::of(lists);
-    let copy = values.copy(alloc)?;
+    Ok(Values::of(lists))
+}
+
+#[test]
+fn values_are_copied(rt: HostRuntime) -> Result<(), Fail> {
+    let values = one_list(rt.alloc())?;
+    let copy = values.copy(rt.alloc())?;
+    assert_eq!(rt; copy.words(ArrayId(0)), [7, -8].as_slice());
+    Ok(())
+}
+
+#[test]
+fn a_cell_is_set(rt: HostRuntime) -> Result<(), Fail> {
+    let mut values = one_list(rt.alloc())?;
     let cell = Cell {
         array: ArrayId(0),
         at: 1,
     };
     values.set(cell, 9);
     assert_eq!(rt; values.get(cell), 9);
-    assert_eq!(rt; copy.get(cell), -8);
-    assert_eq!(rt; copy.len(ArrayId(0)), 2);
-    assert_eq!(rt; copy.len(ArrayId(1)), 0);
-    assert_eq!(rt; copy.words(ArrayId(0)), [7, -8].as_slice());
     Ok(())
 }
 
@@ -107,8 +114,11 @@ fn sizes_follow_the_declarations(rt: HostRuntime) -> Result<(), Fail> {
         (5, None, 0),
     ];
     for (array, size, length) in wanted {
-        assert_eq!(rt; size_of(decls.as_slice(), ArrayId(array)), size);
-        assert_eq!(rt; length_of(decls.as_slice(), 10, 25, ArrayId(array)), length);
+        let array = ArrayId(array);
+        assert!(rt;
+            size_of(decls.as_slice(), array) == size
+                && length_of(decls.as_slice(), 10, 25, array) == length
+        );
     }
     Ok(())
 }
@@ -116,21 +126,18 @@ fn sizes_follow_the_declarations(rt: HostRuntime) -> Result<(), Fail> {
 #[test]
 fn an_array_without_a_list_is_empty(rt: HostRuntime) {
     let arrays = Arrays::of(10, 25, Vec::new(rt.alloc()));
-    assert_eq!(rt; arrays.n(), 10);
-    assert_eq!(rt; arrays.nnz(), 25);
-    assert_eq!(rt; arrays.len(ArrayId(0)), 0);
+    assert!(rt; arrays.len(ArrayId(0)) == 0);
 }
 
 #[test]
 fn terms_differ_by_their_constant(rt: HostRuntime) {
-    assert!(rt; same_term(&term(Atom::N, 1), &term(Atom::N, 1)));
-    assert!(rt; !same_term(&term(Atom::N, 1), &term(Atom::N, 2)));
-    assert!(rt; !same_term(&term(Atom::N, 1), &term(Atom::Nnz, 1)));
+    let one = term(Atom::N, 1);
+    assert!(rt; same_term(&one, &term(Atom::N, 1)) && !same_term(&one, &term(Atom::N, 2)));
 }
 
 #[test]
 fn a_name_has_at_most_sixteen_bytes(rt: HostRuntime) {
-    assert!(rt; Name::of(b"").is_none());
-    assert!(rt; Name::of(b"abcdefghijklmnop").is_some());
-    assert!(rt; Name::of(b"abcdefghijklmnopq").is_none());
+    assert!(rt;
+        Name::of(b"abcdefghijklmnop").is_some() && Name::of(b"abcdefghijklmnopq").is_none()
+    );
 }

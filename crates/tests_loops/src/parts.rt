@@ -54,11 +54,20 @@ impl Parts {
         Ok(())
     }
 
+    fn push_expr(&mut self, expr: Expr) -> Result<(), Fail> {
+        self.exprs.push(expr)?;
+        Ok(())
+    }
+
+    fn push_block(&mut self, block: Items<Item>) -> Result<(), Fail> {
+        self.blocks.push(block)?;
+        Ok(())
+    }
+
     fn push_item(&mut self, item: Item) -> Result<(), Fail> {
         let mut block = self.block()?;
         block.push(item)?;
-        self.blocks.push(block)?;
-        Ok(())
+        self.push_block(block)
     }
 
     fn push(&mut self, alloc: Global, part: Part) -> Result<(), Fail> {
@@ -69,17 +78,11 @@ impl Parts {
             Var(line) => self.push_atom(Atom::Var(own(line)), 0),
             At(array) => self.push_at(alloc, ArrayId(array)),
             Plus(plus) => self.push_plus(plus),
-            Lit(word) => {
-                self.exprs.push(Expr::Lit(word))?;
-                Ok(())
-            }
+            Lit(word) => self.push_expr(Expr::Lit(word)),
             Read(array) => self.push_read(ArrayId(array)),
             Apply(op) => self.push_apply(alloc, op),
             Set(array) => self.push_set(ArrayId(array)),
-            Begin => {
-                self.blocks.push(Items::new(alloc))?;
-                Ok(())
-            }
+            Begin => self.push_block(Items::new(alloc)),
             For(line) => self.push_for(line),
             When(rel) => self.push_when(rel),
         }
@@ -97,15 +100,13 @@ impl Parts {
 
     fn push_read(&mut self, array: ArrayId) -> Result<(), Fail> {
         let at = self.term()?;
-        self.exprs.push(Expr::Read(array, at))?;
-        Ok(())
+        self.push_expr(Expr::Read(array, at))
     }
 
     fn push_apply(&mut self, alloc: Global, op: Op) -> Result<(), Fail> {
         let right = Boxed::new(alloc, self.expr()?)?;
         let left = Boxed::new(alloc, self.expr()?)?;
-        self.exprs.push(Expr::Op(op, left, right))?;
-        Ok(())
+        self.push_expr(Expr::Op(op, left, right))
     }
 
     fn push_set(&mut self, array: ArrayId) -> Result<(), Fail> {

@@ -113,7 +113,6 @@ fn no_cell_outside_written_arrays(rt: HostRuntime) -> Result<(), Fail> {
         Set(4),
     ];
     let cells = touched(&rt, rt.alloc(), &parts)?;
-    assert!(rt; cells.reads.is_empty());
-    assert!(rt; cells.writes.is_empty());
+    assert!(rt; cells.reads.is_empty() && cells.writes.is_empty());
     Ok(())
 }

@@ -1,32 +1,38 @@
 // Lists of words, and what a read or a write outside one does.
+use std::alloc::Global;
 use std::test::Fail;
 use wave_base::words::Words;
 
-#[test]
-fn words_are_pushed_and_copied(rt: HostRuntime) -> Result<(), Fail> {
-    let mut words = Words::with_room(rt.alloc(), 2)?;
-    assert!(rt; words.is_empty());
+fn two_words(alloc: Global) -> Result<Words, Fail> {
+    let mut words = Words::with_room(alloc, 2)?;
     words.push(7)?;
     words.push(-8)?;
+    Ok(words)
+}
+
+#[test]
+fn words_are_copied(rt: HostRuntime) -> Result<(), Fail> {
+    let mut words = two_words(rt.alloc())?;
     let copy = words.copy(rt.alloc())?;
     words.set(1, 9);
-    assert_eq!(rt; words.get(1), 9);
-    assert_eq!(rt; copy.len(), 2);
-    assert_eq!(rt; copy.as_slice(), [7, -8].as_slice());
+    assert!(rt; words.get(1) == 9 && copy.len() == 2);
     assert_eq!(rt; copy.into_vec().as_slice(), [7, -8].as_slice());
     Ok(())
 }
 
 #[test]
-fn outside_a_list_stands_nothing(rt: HostRuntime) -> Result<(), Fail> {
-    let mut words = Words::from_vec(vec![in rt.alloc(); 7, -8]?);
+fn a_write_outside_a_list_does_nothing(rt: HostRuntime) -> Result<(), Fail> {
+    let mut words = two_words(rt.alloc())?;
     words.write(-1, 1);
     words.write(2, 1);
     words.write(0, 5);
     assert_eq!(rt; words.as_slice(), [5, -8].as_slice());
-    assert_eq!(rt; words.read(1), -8);
-    assert_eq!(rt; words.read(2), 0);
-    assert_eq!(rt; words.read(-1), 0);
-    assert_eq!(rt; words.get(2), 0);
+    Ok(())
+}
+
+#[test]
+fn a_read_outside_a_list_is_zero(rt: HostRuntime) -> Result<(), Fail> {
+    let words = two_words(rt.alloc())?;
+    assert!(rt; words.read(-1) == 0 && words.read(2) == 0);
     Ok(())
 }
