@@ -1,4 +1,4 @@
-// The derivation that docs/ANALYSIS.md works out, as a certificate: a.col[p] < n follows from the base of
+// The derivation that docs/use/ANALYSIS.md works out, as a certificate: a.col[p] < n follows from the base of
 // the bracket, with the instances in the order in which they are listed.
 use index_props::certificate::{Cert, Step};
 use sqlite_items::Items;
