@@ -1,7 +1,8 @@
 //! Lists the atoms and the rule instances of two systems of the unit forward substitution: of one
-//! relation, and of the bounds of one bracket, whose upper bound it checks by a certificate. Of 240 systems that are made from a counter it prints
-//! how many atoms and instances there are, with a sum over their text. With the words `time NUMBER`
-//! it prints the least time of so many listings of a system of 90 atoms instead.
+//! relation, and of the bounds of one bracket, whose upper bound it checks by a certificate. Of 240
+//! systems that are made from a counter it prints how many atoms and instances there are, with a sum
+//! over their text. With the words `time NUMBER` it prints the least time of so many listings of a
+//! system of 90 atoms instead.
 #![tactic(auto)]
 
 mod text;
