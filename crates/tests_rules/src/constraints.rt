@@ -5,7 +5,6 @@ ghost use Rattle.uf_constraints.specs.Bindings.{AreWide};
 
 use loop_core::arrays::Arrays;
 use loop_core::nest::Atom;
-use loop_core::words::Words;
 use rule_samples::atoms::entry;
 use rule_samples::made::make_system;
 use rule_samples::many::many_entries;
@@ -23,6 +22,7 @@ use uf_constraints::truth::holds;
 use uf_constraints::universe::{UniverseRefusal, universe};
 use wave_base::steps::Steps;
 use wave_base::types::Memory;
+use wave_base::words::Words;
 
 fn same_atoms(a: &[Atom], b: &[Atom]) -> bool {
     a.len() == b.len() && a.iter().zip(b).all(|(x, y)| same_atom(x, y))
