@@ -2,7 +2,7 @@
 """What a whole proof costs: for each crate the processor seconds, the most memory and the dearest
 items of its proof, and the processor seconds of its must-fail edits.
 
-usage: bench/proofs.py [--scratch] [--jobs N] [--costs FILE] [--table FILE] [NAME..]
+usage: bench/proofs.py [--scratch] [--no-edits] [--jobs N] [--costs FILE] [--table FILE] [NAME..]
 
 Each crate is proved by `rt ci NAME`, those that it uses before it, up to N (4) side by side: first
 without its edits, which gives the proof (or the tests, for a crate whose name begins with
@@ -75,14 +75,15 @@ def run_ci(folder, name, earlier):
     return cost
 
 
-def copy_of(scratch):
+def copy_of(scratch, with_edits):
     """A copy of what a proof reads, each root file marked where nothing kept is to count."""
+    left_out = shutil.ignore_patterns("out", *([] if with_edits else ["must-fail"]))
     folder = tempfile.mkdtemp(prefix="wave-proofs-")
     names = [name for name in ("crates", "crates.txt", "HANDLES") if os.path.exists(os.path.join(TOP, name))]
     for name in names:
         source, target = os.path.join(TOP, name), os.path.join(folder, name)
         if os.path.isdir(source):
-            shutil.copytree(source, target, ignore=shutil.ignore_patterns("out"))
+            shutil.copytree(source, target, ignore=left_out)
         else:
             shutil.copy(source, target)
     if scratch:
@@ -96,7 +97,7 @@ def copy_of(scratch):
 
 
 def measure(folder, name, earlier):
-    """The cost of the proof, and that of the edits on top of it."""
+    """The cost of the proof, and that of the edits on top of it, where there are edits in the folder."""
     edits = os.path.join(folder, "crates", name, "must-fail")
     if not os.path.isdir(edits):
         return run_ci(folder, name, earlier[0]), None
@@ -173,6 +174,7 @@ def table(uses, costs):
 def main():
     words = argparse.ArgumentParser(description=__doc__, formatter_class=argparse.RawDescriptionHelpFormatter)
     words.add_argument("--scratch", action="store_true", help="let nothing count that is kept")
+    words.add_argument("--no-edits", action="store_true", help="measure the proofs and tests alone")
     words.add_argument("--jobs", type=int, default=4, help="crates side by side")
     words.add_argument("--costs", metavar="FILE", help="a file of figures, which is read and written again")
     words.add_argument("--table", metavar="FILE", help="a file for the table, beside standard output")
@@ -192,7 +194,7 @@ def main():
     if given.costs and os.path.exists(given.costs):
         with open(given.costs) as file:
             earlier = json.load(file)
-    folder = copy_of(given.scratch)
+    folder = copy_of(given.scratch, not given.no_edits)
     try:
         costs = measure_all(folder, uses, given.jobs, earlier)
     finally:
