@@ -75,10 +75,19 @@ fn bad_step(answer: Result<Diff, CertRefusal>) -> Result<Option<u64>, Fail> {
     }
 }
 
-// Whether the answer is the constraint a - b <= c.
-fn is_given(answer: &Result<Diff, CertRefusal>, a: &Atom, b: &Atom, c: i64) -> bool {
+// The atom of a number: 0, n and nnz.
+fn size(number: u8) -> Atom {
+    match number {
+        0 => Atom::Zero,
+        1 => Atom::N,
+        _ => Atom::Nnz,
+    }
+}
+
+// Whether the answer is the constraint a - b <= c between the atoms of these numbers.
+fn is_given(answer: &Result<Diff, CertRefusal>, a: u8, b: u8, c: i64) -> bool {
     match answer {
-        Ok(diff) => same_atom(&diff.a, a) && same_atom(&diff.b, b) && diff.c == c,
+        Ok(diff) => same_atom(&diff.a, &size(a)) && same_atom(&diff.b, &size(b)) && diff.c == c,
         Err(_) => false,
     }
 }
@@ -106,44 +115,48 @@ fn good_steps(alloc: Global, count: usize) -> Result<Items<Step>, Fail> {
 fn each_step_gives_its_constraint(rt: HostRuntime) -> Result<(), Fail> {
     let alloc = rt.alloc();
     let wanted = [
-        (1, Atom::Zero, Atom::N, -1),
-        (2, Atom::N, Atom::Nnz, 3),
-        (3, Atom::Zero, Atom::Nnz, 2),
-        (4, Atom::Zero, Atom::Nnz, 9),
-        (5, Atom::Nnz, Atom::Nnz, 0),
-        (6, Atom::Zero, Atom::Nnz, 9),
-        (7, Atom::Nnz, Atom::Zero, 7),
-        (8, Atom::Nnz, Atom::Nnz, 16),
-        (9, Atom::Nnz, Atom::Nnz, 16),
+        (1, 0, 1, -1),
+        (2, 1, 2, 3),
+        (3, 0, 2, 2),
+        (4, 0, 2, 9),
+        (5, 2, 2, 0),
+        (6, 0, 2, 9),
+        (7, 2, 0, 7),
+        (8, 2, 2, 16),
+        (9, 2, 2, 16),
     ];
-    for (count, a, b, c) in &wanted {
-        let answer = checked(alloc, good_steps(alloc, *count)?)?;
-        assert!(rt; is_given(&answer, a, b, *c), "{count} steps");
+    for (count, a, b, c) in wanted {
+        let answer = checked(alloc, good_steps(alloc, count)?)?;
+        assert!(rt; is_given(&answer, a, b, c), "{count} steps");
     }
     Ok(())
 }
 
 #[test]
-fn steps_that_are_none(rt: HostRuntime) -> Result<(), Fail> {
-    let alloc = rt.alloc();
+fn base_and_same_outside_the_system(rt: HostRuntime) -> Result<(), Fail> {
     let outside = Atom::Var(VarId {
         line: 1,
         side: Side::Own,
     });
-    let steps = [
-        Step::Base(2),
-        Step::Same(outside),
-        Step::Sum(0, 2),
-        Step::Sum(2, 1),
-        Step::Sum(0, 3),
-        Step::Sum(0, 0),
-        Step::Sum(1, 0),
-        Step::Weaken(0, -2),
-        Step::Weaken(2, 9),
-        Step::Weaken(3, 9),
-    ];
-    for step in steps {
-        assert_eq!(rt; bad_after_base(alloc, step)?, Some(2));
+    assert_eq!(rt; bad_after_base(rt.alloc(), Step::Base(2))?, Some(2));
+    assert_eq!(rt; bad_after_base(rt.alloc(), Step::Same(outside))?, Some(2));
+    Ok(())
+}
+
+#[test]
+fn sums_that_are_none(rt: HostRuntime) -> Result<(), Fail> {
+    for (k, l) in [(0, 2), (2, 1), (0, 3), (0, 0), (1, 0)] {
+        let at = bad_after_base(rt.alloc(), Step::Sum(k, l))?;
+        assert_eq!(rt; at, Some(2), "{k} and {l}");
+    }
+    Ok(())
+}
+
+#[test]
+fn weakenings_that_are_none(rt: HostRuntime) -> Result<(), Fail> {
+    for (k, c) in [(0, -2), (2, 9), (3, 9)] {
+        let at = bad_after_base(rt.alloc(), Step::Weaken(k, c))?;
+        assert_eq!(rt; at, Some(2), "{k} to {c}");
     }
     Ok(())
 }
