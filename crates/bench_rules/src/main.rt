@@ -11,53 +11,22 @@ mod worked;
 use crate::text::{atom_text, diff_text, rule_text};
 use cert_check::check::check;
 use cert_check::refusal::CertRefusal;
-use index_props::instances::instances;
-use index_props::rule::RuleInst;
-use index_props::small::are_bounds_small;
 use loop_core::decl::PropKind;
 use rule_samples::forward;
+use rule_samples::listing::{Listing, list};
 use rule_samples::made::make_system;
 use rule_samples::many::many_entries;
 use rule_samples::system::{PTR, System};
-use sqlite_items::Items;
 use std::alloc::{AllocError, Global};
 use std::time::Instant;
 use std::{env, io};
-use uf_constraints::small::{are_diffs_small, are_terms_small};
-use uf_constraints::system::Universe;
-use uf_constraints::universe::universe;
 use wave_base::types::Memory;
-
-/// The atoms and the instances of a system.
-#[derive(Drop)]
-struct Listing {
-    universe: Universe,
-    rules: Items<RuleInst>,
-}
-
-fn list(alloc: Global, system: &System) -> Option<Listing> {
-    let base = system.base.as_slice();
-    let terms = system.terms.as_slice();
-    let props = system.props.as_slice();
-    if !are_diffs_small(base) {
-        return None;
-    }
-    if !are_terms_small(terms) {
-        return None;
-    }
-    if !are_bounds_small(props) {
-        return None;
-    }
-    let universe = universe(alloc, base, terms, props).ok()?;
-    let rules = instances(alloc, &universe, system.decls.as_slice(), props).ok()?;
-    Some(Listing { universe, rules })
-}
 
 fn show(rt: &HostRuntime, system: Result<System, Memory>) -> io::Result<()> {
     let Ok(system) = system else {
         return Ok(());
     };
-    let Some(listing) = list(rt.alloc(), &system) else {
+    let Some(listing) = list(rt.alloc(), system) else {
         return Ok(());
     };
     for atom in listing.universe.atoms.as_slice() {
@@ -74,17 +43,16 @@ fn show_check(rt: &HostRuntime, names_itself: bool) -> io::Result<()> {
     let Ok(system) = forward::bracket(rt.alloc()) else {
         return Ok(());
     };
-    let Some(listing) = list(rt.alloc(), &system) else {
+    let Some(listing) = list(rt.alloc(), system) else {
         return Ok(());
     };
     let Some(cert) = worked::certificate(rt.alloc(), names_itself) else {
         return Ok(());
     };
-    let base = system.base.as_slice();
     match check(
         rt.alloc(),
         &listing.universe,
-        base,
+        listing.base.as_slice(),
         listing.rules.as_slice(),
         &cert,
     ) {
@@ -118,7 +86,7 @@ fn show_made(rt: &HostRuntime, counter: u32) -> io::Result<()> {
     let Ok(system) = make_system(rt.alloc(), counter) else {
         return Ok(());
     };
-    let Some(listing) = list(rt.alloc(), &system) else {
+    let Some(listing) = list(rt.alloc(), system) else {
         return Ok(());
     };
     println!(rt;
@@ -141,13 +109,13 @@ fn large_system(alloc: Global) -> Result<System, Memory> {
 
 /// How many atoms and instances there are, and the least number of nanoseconds of several turns.
 fn time(rt: &HostRuntime, turns: u32) -> io::Result<()> {
-    let Ok(system) = large_system(rt.alloc()) else {
-        return Ok(());
-    };
     let mut least = u128::MAX;
     for turn in 0..turns {
+        let Ok(system) = large_system(rt.alloc()) else {
+            return Ok(());
+        };
         let start = Instant::now(rt)?;
-        let Some(listing) = list(rt.alloc(), &system) else {
+        let Some(listing) = list(rt.alloc(), system) else {
             return Ok(());
         };
         least = least.min(start.elapsed(rt)?.as_nanos());
