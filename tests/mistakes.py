@@ -80,7 +80,7 @@ MISTAKES = [
     ("a name that isn't declared", loop("  set x[i] = c[i]"), WORDS, "loop name line 5 unknown", "declare it above"),
     ("rows of a csr matrix", loop("  set x[a.row[i]] = b[i]"), WORDS, "loop name line 5 unknown", "change the form"),
     ("the matrix with a bracket", loop("  set x[i] = a[i]"), WORDS, "loop name line 5 wrong_kind", "index arrays with one"),
-    ("a guard on a value", loop("  when x[i] < 0"), WORDS, "loop name line 5 wrong_kind", "no branch on a value"),
+    ("a guard on a value", loop("  when x[i] < 0\n    set x[i] = b[i]\n  end"), WORDS, "loop name line 5 wrong_kind", "no branch on a value"),
     ("a bound from a vector", loop("  for p in 0..b[i]", 6), WORDS, "loop name line 6 wrong_kind", "declare `index`"),
     ("a property of a vector", loop("rising b", 3), WORDS, "loop name line 3 wrong_kind", "n+1 entries"),
     ("a loop's variable twice", loop("  for i in a.ptr[i]..a.diag[i]", 6), WORDS, "loop name line 6 twice", "choose another name"),
