@@ -1,8 +1,10 @@
-//! Tests of the readers of Matrix Market texts and of compressed arrays.
+//! Tests of the readers of Matrix Market texts, of compressed arrays and of made matrices.
 #![tactic(auto)]
 
 #[cfg(test)]
 mod compressed;
+#[cfg(test)]
+mod generated;
 #[cfg(test)]
 mod matrices;
 #[cfg(test)]
