@@ -1,4 +1,4 @@
--- The right side of a lower triangle whose answer is 1, 2, 3 and so on.
+-- A right side of a lower triangle, made so that the answer is 1, 2, 3 and so on.
 use Rattle.std.specs.Prelude.{ℕ, ℤ, pos, negsuc, ◌+ℤ◌, ◌*ℤ◌, ◌+◌, ◌-◌, List, if◌then◌else◌, int_le, length, map, slice_index_or}
 use Rattle.std.specs.List.{fold, range_with_len}
 use Rattle.wave_base.specs.Word.{wrapped}

@@ -3,6 +3,7 @@
 
 mod draws;
 pub mod grid;
+pub mod laws;
 pub mod lower;
 pub mod right_side;
 mod text;

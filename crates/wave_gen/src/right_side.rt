@@ -1,4 +1,4 @@
-// A right side with a known answer.
+// A right side that is made for a known answer.
 ghost use Rattle.std.specs.Prelude.{◌≡◌, ◌<◌, ◌+◌, ◌^◌, IfOk};
 ghost use Rattle.wave_base.specs.Word.{wrapped};
 ghost use Rattle.wave_gen.specs.RightSide.{natural, term, row_sum, right_side};
@@ -8,9 +8,9 @@ use std::alloc::Global;
 use wave_base::types::Memory;
 use wave_base::w64;
 
-/// The right side of the lower triangle of a matrix in compressed rows, of which the answer is
-/// 1, 2, 3 and so on: for each row the wrapped sum of value times (column + 1) over its stored places
-/// up to the diagonal. It fails out of memory alone. The work is linear in rows and stored places.
+/// For each row of a matrix in compressed rows the wrapped sum of value times (column + 1) over its
+/// stored places up to the diagonal: the right side for which forward substitution is to give 1, 2, 3
+/// and so on. It fails out of memory alone. The work is linear in rows and stored places.
 pub fn right_side(alloc: Global, m: &Compressed) -> Result<Vec<i64>, Memory>
     ensures { IfOk result (λ b. b.items ≡ right_side m.now) }
 {
