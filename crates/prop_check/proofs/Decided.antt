@@ -1,5 +1,5 @@
 -- Comparisons, and what is built of them, are decided.
-use Rattle.std.proofs.Common.{ℕ, ℤ, ◌≤ℤ◌, ◌<◌, ◌≡◌, ◌⊎◌, inl, inr, arith, Bool, true, false, refl, sym, ◌∙◌}
+use Rattle.std.proofs.Common.{ℤ, ◌≤ℤ◌, ◌≡◌, ◌⊎◌, inl, inr, arith, Bool, true, false, refl, sym, ◌∙◌}
 use Rattle.std.proofs.lemmas.Bool.{false≢true}
 use Rattle.std.specs.Int.Signed.{◌<ℤ◌, lt_z}
 use Rattle.std.specs.Ordering.{int_eq}

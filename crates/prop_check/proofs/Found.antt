@@ -1,5 +1,5 @@
 -- A property that fails has places.
-use Rattle.std.proofs.Common.{ℕ, ℤ, pos, [], ◌+◌, ◌<◌, ◌⊎◌, inl, inr, arith, refl, List, length, ◌≡◌}
+use Rattle.std.proofs.Common.{ℕ, ℤ, pos, [], ◌+◌, ◌<◌, inl, inr, arith, refl, List, length}
 use Rattle.std.proofs.lemmas.Int.{ints}
 use Rattle.std.proofs.Math.Decide.{dec_lt}
 use Rattle.loop_core.specs.declared.decl.PropKind.{PropKind}

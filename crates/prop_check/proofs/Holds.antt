@@ -1,10 +1,10 @@
 -- Where no place fails, the property holds.
-use Rattle.std.proofs.Common.{ℕ, zero, suc, ℤ, pos, ◌≤ℤ◌, ◌+◌, ◌<◌, ◌≤◌, ◌≡◌, ◌⊎◌, inl, inr, List, length, sym, ap, ◌∙◌, arith, subst}
+use Rattle.std.proofs.Common.{ℕ, zero, suc, ℤ, pos, ◌≤ℤ◌, ◌+◌, ◌<◌, ◌≤◌, ◌≡◌, inl, inr, List, length, arith, subst}
 use Rattle.std.specs.Int.Signed.{◌<ℤ◌, ≤ℤ_refl}
 use Rattle.std.proofs.lemmas.Int.{ints}
 use Rattle.std.proofs.Math.Nat.{eq-or-lt_of_le}
-use Rattle.index_props.specs.Meanings.{at, Ranged, RisingList, StrictList, InjectiveList, InSegment, SortedBy, BelowBy, UptoBy, IsDiagonal, DiagonalOf, BeforeList}
-use Rattle.index_props.specs.Places.{OutOfRange, Falls, Stays, SameBefore, StaysIn, NotBelowIn, AboveIn, NoDiagonal, NotBefore}
+use Rattle.index_props.specs.Meanings.{at, Ranged, RisingList, StrictList, InjectiveList, InSegment, SortedBy, BelowBy, UptoBy, BeforeList}
+use Rattle.index_props.specs.Places.{OutOfRange, Falls, Stays, SameBefore, StaysIn, NotBelowIn, AboveIn, NotBefore}
 
 at_most_unless : (x y : ℤ) → (y <ℤ x → ⊥) → x ≤ℤ y
 at_most_unless x y above = grind (arith, ints, above)

@@ -2,4 +2,8 @@ pub mod Decided
 pub mod Found
 pub mod Holds
 pub mod Search
+pub mod InOrder
+pub mod Kept
+pub mod Spans
+pub mod Twins
 pub mod Unique

@@ -1,5 +1,5 @@
 -- A property has one pair of places.
-use Rattle.std.proofs.Common.{ℕ, ◌<◌, ◌+◌, ◌≡◌, ◌⊎◌, inl, inr, arith, subst, sym, ap, ◌∙◌}
+use Rattle.std.proofs.Common.{ℕ, ◌+◌, ◌≡◌, arith, subst, sym, ap, ◌∙◌}
 use Rattle.loop_core.specs.declared.decl.PropKind.{PropKind}
 use Rattle.loop_core.specs.declared.decl.PropKind.TheVariants.{Range, Rising, Strict, Injective, Sorted, Below, Upto, Diagonal, Before}
 use Rattle.loop_core.specs.Lists.{Lists, list_of}

@@ -7,6 +7,8 @@ use Rattle.loop_core.specs.declared.decl.PropKind.TheVariants.{Range, Rising, St
 use Rattle.loop_core.specs.Lists.{Lists}
 use Rattle.index_props.specs.Meanings.{Passes}
 use Rattle.index_props.specs.Places.{FailsAt}
+use Rattle.prop_check.specs.declared.check.CheckRefusal.{CheckRefusal}
+use Rattle.prop_check.specs.declared.check.CheckRefusal.TheVariants.{Broken, Memory}
 
 -- the property of this number, counted from 1, fails, with these places; all before it hold
 pub record FirstBroken (props : List PropDecl) (a : Lists) (property first second : ℕ) : Type 0 where
@@ -32,3 +34,8 @@ is_injective (Before f g) = false
 -- an `injective` is declared
 abbrev pub HasInjective : List PropDecl → Type 0
 HasInjective props = IsTrue (list_any (λ p. is_injective p.kind) props)
+
+-- what each refusal says
+abbrev pub IsRefusal : List PropDecl → Lists → CheckRefusal → Type 0
+IsRefusal props a (Broken property first second) = FirstBroken props a property first second
+IsRefusal props a Memory = HasInjective props

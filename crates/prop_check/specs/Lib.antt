@@ -1,2 +1,4 @@
 pub mod Broken
 pub mod Finds
+pub mod Segments
+pub mod Twins

@@ -1,12 +1,12 @@
 // `diagonal`: entry i of the first array is a place in segment i of the third, at which the second
 // holds i.
-ghost use Rattle.std.specs.Prelude.{◌+◌, ◌<◌, ◌^◌, ◌↔◌, IsTrue};
+ghost use Rattle.std.specs.Prelude.{◌↔◌, IsTrue};
 ghost use Rattle.loop_core.specs.Lists.{list_of};
 ghost use Rattle.loop_core.specs.declared.decl.PropKind.TheVariants.{Diagonal};
 ghost use Rattle.index_props.specs.Meanings.{IsDiagonal};
 ghost use Rattle.prop_check.specs.Finds.{Shows};
 
-use crate::entry::entry_at;
+use crate::entry::{entry_after, entry_at};
 use crate::least::{Test, least};
 use crate::places::Places;
 use loop_core::arrays::Arrays;
@@ -40,7 +40,6 @@ impl Test for OffDiagonal {
 }
 
 fn is_diagonal<L: Ledger>(arrays: &Arrays, at: &OffDiagonal, i: u64, steps: &mut Steps<L>) -> bool
-    requires { i + 1 < 2 ^ 64 }
     ensures { IsTrue result
         ↔ IsDiagonal (list_of arrays.now.lists at.now.d) (list_of arrays.now.lists at.now.f) (list_of arrays.now.lists at.now.p) i }
 {
@@ -48,7 +47,7 @@ fn is_diagonal<L: Ledger>(arrays: &Arrays, at: &OffDiagonal, i: u64, steps: &mut
     if place < entry_at(arrays, at.p, i, steps) {
         return false;
     }
-    if place >= entry_at(arrays, at.p, i + 1, steps) {
+    if place >= entry_after(arrays, at.p, i, steps) {
         return false;
     }
     arrays.at(at.f, place as i128, steps) as i128 == i as i128

@@ -3,10 +3,16 @@
 #![tactic(auto)]
 
 mod before;
+pub mod check;
 mod diagonal;
 mod entry;
+mod injective;
 pub mod laws;
 mod least;
 mod neighbours;
 mod places;
 mod range;
+mod rule;
+mod segment;
+mod segmented;
+mod skips;

@@ -1,8 +1,10 @@
 // `rising` and `strict`: each entry is at most the next one, or below it.
+ghost use Rattle.std.specs.Prelude.{◌↔◌, IsTrue};
+ghost use Rattle.loop_core.specs.Lists.{list_of};
 ghost use Rattle.loop_core.specs.declared.decl.PropKind.TheVariants.{Rising, Strict};
-ghost use Rattle.prop_check.specs.Finds.{Shows};
+ghost use Rattle.prop_check.specs.Finds.{DoesNotRise, Shows};
 
-use crate::entry::entry_at;
+use crate::entry::{entry_after, entry_at};
 use crate::least::{Test, least};
 use crate::places::Places;
 use loop_core::arrays::Arrays;
@@ -28,14 +30,27 @@ impl Test for Unrisen {
     }
 
     fn fails<L: Ledger>(&self, place: u64, arrays: &Arrays, steps: &mut Steps<L>) -> bool {
-        let many = arrays.len(self.p);
-        if place >= many || place + 1 >= many {
-            return false;
-        }
-        let here = entry_at(arrays, self.p, place, steps);
-        let next = entry_at(arrays, self.p, place + 1, steps);
-        next < here || self.strict && next == here
+        does_not_rise(arrays, self.p, self.strict, place, steps)
     }
+}
+
+/// Whether the entry at a place is above the next one or, where it is strict, not below it.
+pub fn does_not_rise<L: Ledger>(
+    arrays: &Arrays,
+    p: ArrayId,
+    strict: bool,
+    place: u64,
+    steps: &mut Steps<L>,
+) -> bool
+    ensures { IsTrue result ↔ DoesNotRise strict (list_of arrays.now.lists p) place }
+{
+    let many = arrays.len(p);
+    if place >= many || place + 1 >= many {
+        return false;
+    }
+    let here = entry_at(arrays, p, place, steps);
+    let next = entry_after(arrays, p, place, steps);
+    next < here || strict && next == here
 }
 
 #[tactic(auto, using(crate::proofs::Holds::rising))]

@@ -1,7 +1,6 @@
 use Rattle.std.proofs.Common.{rules, ◌≡◌, ◌∙◌, [], ap, SFits}
 use Rattle.std.proofs.lemmas.Int.{to_z-of_z}
 use mir.Syntax.{w128}
-use Rattle.loop_core.specs.declared.env.Env.{Env}
 use Rattle.loop_core.specs.declared.env.Env.TheVariants.{Empty}
 use Rattle.loop_core.specs.declared.env.Env.TheFolds.{the_lemmas as of_env}
 use Rattle.loop_core.specs.Variables.{bindings}
