@@ -11,3 +11,5 @@ mod constraints;
 mod instances;
 #[cfg(test)]
 mod meaning;
+#[cfg(test)]
+mod properties;
