@@ -27,7 +27,7 @@ is_diagonal d f p i = decided.same
 stays : (p : List ℤ) (a : ℕ) → Dec (Stays p a)
 stays p a = decided.both (dec_lt (a + 1) (length p)) (decided.at_most (at p (a + 1)) (at p a))
 
-diagonal : (d f p : List ℤ) → ((k : ℕ) → NoDiagonal d f p k → ⊥) → DiagonalOf d f p
+pub diagonal : (d f p : List ℤ) → ((k : ℕ) → NoDiagonal d f p k → ⊥) → DiagonalOf d f p
 diagonal d f p none i lt = decided.stable (is_diagonal d f p i) (λ h. none i (lt, h))
 
 one : (P : ℕ → Type 0) (m : ℕ) → ((k : ℕ) → Dec (P k)) → ((k : ℕ) → P k → k < m) → ((((k : ℕ) → P k → ⊥)) → ⊥) → (n : ℕ) × IsLeast P n

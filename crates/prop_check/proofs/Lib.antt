@@ -1,3 +1,4 @@
+pub mod ByPairs
 pub mod Decided
 pub mod Found
 pub mod Holds

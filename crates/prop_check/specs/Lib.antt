@@ -1,4 +1,5 @@
 pub mod Broken
 pub mod Finds
+pub mod Pairs
 pub mod Segments
 pub mod Twins

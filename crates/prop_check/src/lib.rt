@@ -11,6 +11,7 @@ pub mod laws;
 mod least;
 mod neighbours;
 mod places;
+pub mod plain;
 mod range;
 mod rule;
 mod segment;
