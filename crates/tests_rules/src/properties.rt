@@ -3,6 +3,7 @@ use loop_core::arrays::Arrays;
 use loop_core::decl::{PropDecl, PropKind};
 use loop_core::nest::{Atom, Term};
 use prop_check::check::{CheckRefusal, Passed, check};
+use prop_check::plain::check_by_pairs;
 use std::alloc::Global;
 use std::process::Abort;
 use std::test::Fail;
@@ -215,5 +216,68 @@ fn without_properties_all_pass(rt: HostRuntime) -> Result<(), Fail> {
     let alloc = rt.alloc();
     let arrays = arrays_of(alloc, &[], &[])?;
     assert_eq!(rt; shown(check(alloc, &[], &arrays)), Some((0, 0, 0)));
+    Ok(())
+}
+
+// Numbers from -1 to 6, made from a counter.
+fn made(alloc: Global, seed: u64, many: u64) -> Result<Vec<i64>, Fail> {
+    let mut list = Vec::new(alloc);
+    for k in 0..many {
+        let mixed = seed.wrapping_add(k).wrapping_mul(11400714819323198485) >> 59;
+        list.push((mixed % 8).cast_signed().wrapping_sub(1))?;
+    }
+    Ok(list)
+}
+
+fn made_arrays(alloc: Global, seed: u64) -> Result<Arrays, Fail> {
+    let first = made(alloc, seed, seed % 7)?;
+    let second = made(alloc, seed.wrapping_mul(31), 5)?;
+    arrays_of(alloc, first.as_slice(), second.as_slice())
+}
+
+fn agree(alloc: Global, props: &[PropDecl], arrays: &Arrays) -> bool {
+    props.len() > 9 || shown(check(alloc, props, arrays)) == shown(check_by_pairs(props, arrays))
+}
+
+// Whether both bodies agree on a property, whatever the arrays.
+fn always_agree(alloc: Global, kind: PropKind) -> Result<bool, Fail> {
+    let props = [PropDecl { line: 1, kind }];
+    for seed in 0..400 {
+        let arrays = made_arrays(alloc, seed)?;
+        if !agree(alloc, &props, &arrays) {
+            return Ok(false);
+        }
+    }
+    Ok(true)
+}
+
+#[test]
+fn both_bodies_agree_on_entries(rt: HostRuntime) -> Result<(), Fail> {
+    let alloc = rt.alloc();
+    let range = PropKind::Range(FIRST, bound(Atom::Zero, 0), bound(Atom::N, 2));
+    let ranges = always_agree(alloc, range)?;
+    let befores = always_agree(alloc, PropKind::Before(FIRST, SECOND))?;
+    let diagonals = always_agree(alloc, PropKind::Diagonal(FIRST, FIRST, SECOND))?;
+    assert!(rt; ranges && befores && diagonals);
+    Ok(())
+}
+
+#[test]
+fn both_bodies_agree_on_pairs(rt: HostRuntime) -> Result<(), Fail> {
+    let alloc = rt.alloc();
+    let rising = always_agree(alloc, PropKind::Rising(FIRST))?;
+    let strict = always_agree(alloc, PropKind::Strict(FIRST))?;
+    let injective = always_agree(alloc, PropKind::Injective(FIRST))?;
+    assert!(rt; rising && strict && injective);
+    Ok(())
+}
+
+#[test]
+fn both_bodies_agree_on_segments(rt: HostRuntime) -> Result<(), Fail> {
+    let alloc = rt.alloc();
+    let sorted = always_agree(alloc, PropKind::Sorted(FIRST, SECOND))?;
+    let below = always_agree(alloc, PropKind::Below(FIRST, SECOND))?;
+    let upto = always_agree(alloc, PropKind::Upto(FIRST, SECOND))?;
+    assert!(rt; sorted && below && upto);
     Ok(())
 }
