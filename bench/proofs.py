@@ -1,6 +1,6 @@
 #!/usr/bin/env python3
-"""What a whole proof costs: for each crate the processor seconds, the most memory and the dearest
-items of its proof, and the processor seconds of its must-fail edits.
+"""What a whole proof costs: for each crate the processor seconds and the most memory of its proof, and
+the processor seconds of its must-fail edits.
 
 usage: bench/proofs.py [--scratch] [--no-edits] [--jobs N] [--costs FILE] [--table FILE] [NAME..]
 
@@ -15,7 +15,6 @@ processors, user and system.
 import argparse
 import json
 import os
-import re
 import shutil
 import subprocess
 import sys
@@ -27,12 +26,11 @@ TOP = os.path.dirname(os.path.dirname(os.path.abspath(__file__)))
 
 
 class Cost:
-    """What one run of `rt ci` took: processor and wall seconds, the most megabytes, the dearest items."""
+    """What one run of `rt ci` took: processor and wall seconds, and the most megabytes."""
 
     def __init__(self, **known):
         self.processor = self.wall = 0.0
         self.megabytes = 0
-        self.items = []
         self.passed = True
         self.__dict__.update(known)
 
@@ -49,24 +47,17 @@ def crates_of(path):
 
 
 def run_ci(folder, name, earlier):
-    """Runs `rt ci NAME` in the folder. The time of an item is that from the line before it. Where
-    nothing was done, the cost is the earlier one, if there is one."""
+    """Runs `rt ci NAME` in the folder. Where nothing was done, the cost is the earlier one, if there
+    is one."""
     cost, start = Cost(), time.time()
     child = subprocess.Popen(["rt", "ci", name], cwd=folder, stdin=subprocess.DEVNULL,
                              stdout=subprocess.PIPE, stderr=subprocess.STDOUT, text=True, errors="replace")
-    before, lines = start, []
-    for line in child.stdout:
-        now = time.time()
-        if re.match(r"(fn|struct|impl|enum|trait) \S+: proved", line):
-            cost.items.append((now - before, line.split()[1].rstrip(":")))
-        before = now
-        lines.append(line)
+    lines = list(child.stdout)
     _, status, used = os.wait4(child.pid, 0)
     child.returncode = status
     cost.wall = time.time() - start
     cost.processor = used.ru_utime + used.ru_stime
     cost.megabytes = used.ru_maxrss // 1024
-    cost.items.sort(reverse=True)
     cost.passed = status == 0
     if not cost.passed:
         sys.stderr.write("".join(lines[-40:]))
@@ -150,19 +141,18 @@ def longest_chain(uses, costs):
 
 
 def table(uses, costs):
-    lines = ["| crate | proof, s | memory, MB | edits | edits, s | dearest items, s |", "|---|---|---|---|---|---|"]
+    lines = ["| crate | proof, s | memory, MB | edits | edits, s |", "|---|---|---|---|---|"]
     sums = {"proofs": 0.0, "tests": 0.0, "edits": 0.0}
     for name in uses:
         proof, edits = costs[name]
         folder = os.path.join(TOP, "crates", name, "must-fail")
         count = len(os.listdir(folder)) if os.path.isdir(folder) else 0
-        dear = ", ".join(f"`{item}` {seconds:.0f}" for seconds, item in proof.items[:2] if seconds >= 5)
         spent = edits.processor if edits else 0.0
         sums["tests" if name.startswith("tests_") else "proofs"] += proof.processor
         sums["edits"] += spent
         failed = "" if proof.passed and (edits is None or edits.passed) else " (failed)"
         lines.append(f"| `{name}`{failed} | {proof.processor:.0f} | {proof.megabytes} | {count or ''} |"
-                     f" {f'{spent:.0f}' if edits else ''} | {dear} |")
+                     f" {f'{spent:.0f}' if edits else ''} |")
     lines.append("")
     lines.append("Processor minutes: " + ", ".join(f"{what} {sums[what] / 60:.0f}" for what in sums)
                  + f", together {sum(sums.values()) / 60:.0f}.")
