@@ -191,6 +191,7 @@ fn unit_forward(alloc: Global) -> Result<Nest, Memory> {
     Ok(Nest {
         decls: Items::new(alloc),
         props: Items::new(alloc),
+        locals: Items::new(alloc),
         line: 9,
         name: name(b"i")?,
         body,

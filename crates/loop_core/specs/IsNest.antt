@@ -1,5 +1,5 @@
 -- When a nest is one that the loop language can say.
-use Rattle.std.specs.Prelude.{◌≡◌, ℕ, ◌≤◌, ℤ, pos, negsuc, int_le, Bool, true, false, IsTrue, ◌&&◌, not, nat_lt, List, [], ◌∷◌, ◌++◌, map, length, slice_get, Option, Some}
+use Rattle.std.specs.Prelude.{◌≡◌, ℕ, ◌≤◌, ◌^◌, ℤ, pos, negsuc, int_le, Bool, true, false, IsTrue, ◌&&◌, not, nat_lt, List, [], ◌∷◌, ◌++◌, map, length, slice_get, Option, Some}
 use Rattle.std.specs.List.{list_all, list_any, count_by, filter, flat_map}
 use Rattle.wave_base.specs.declared.types.ArrayId.{ArrayId}
 use Rattle.loop_core.specs.declared.decl.Decl.{Decl}
@@ -18,10 +18,10 @@ use Rattle.loop_core.specs.declared.nest.Nest.{Nest}
 use Rattle.loop_core.specs.Binding.{same_variable}
 use Rattle.loop_core.specs.Depth.{body_depth}
 use Rattle.loop_core.specs.Names.{same_name, is_name, are_distinct}
-use Rattle.loop_core.specs.Shape.{Loop, Line, body_lines, line_terms, line_arrays, line_numbers, line_names, is_target, term_vars, term_arrays, term_constants}
+use Rattle.loop_core.specs.Shape.{Loop, Line, body_lines, line_terms, line_arrays, line_numbers, line_names, line_locals, is_target, term_vars, term_arrays, term_constants}
 use Rattle.loop_core.specs.Sizes.{sizes, is_index, is_data}
 
--- Declarations.
+-- Declarations. A local is a declared name too.
 
 abbrev pub is_matrix : DeclKind → Bool
 is_matrix (Matrix form) = true
@@ -29,7 +29,7 @@ is_matrix (Index size) = false
 is_matrix (Vector size source) = false
 
 abbrev pub declared_names : Nest → List (List ℕ)
-declared_names nest = map (λ d. d.name) nest.decls
+declared_names nest = map (λ d. d.name) nest.decls ++ map (λ l. l.name) nest.locals
 
 -- Properties.
 
@@ -96,6 +96,10 @@ uses_kinds decls l =
 abbrev pub references_on : Nest → Line → List ArrayId
 references_on nest l = filter (is_target nest) (line_arrays l.form)
 
+-- each local on a line is a declared one
+abbrev pub knows_locals : Nest → Line → Bool
+knows_locals nest l = list_all (λ local. nat_lt local (length nest.locals)) (line_locals l.form)
+
 -- Numbers.
 
 -- from -1,048,576 to 1,048,576
@@ -105,8 +109,10 @@ is_constant z = int_le (negsuc 1048575) z && int_le z (pos 1048576)
 abbrev pub has_constants : Term → Bool
 has_constants t = list_all is_constant (term_constants t)
 
-abbrev pub is_natural : ℤ → Bool
-is_natural z = int_le (pos 0) z
+-- from 0 to 2 ^ 63 - 1
+abbrev pub is_literal : ℤ → Bool
+is_literal (pos n) = nat_lt n (2 ^ 63)
+is_literal (negsuc n) = false
 
 -- each number is above those before it
 abbrev pub rises_from : ℕ → List ℕ → Bool
@@ -120,12 +126,14 @@ pub record IsNest (nest : Nest) : Type 0 where
   pub distinct : IsTrue (are_distinct (nest.name ∷ declared_names nest))
   pub anew : IsTrue (list_all (names_anew nest) (body_lines nest))
   pub few_arrays : length (sizes nest.decls) ≤ 64
+  pub few_locals : length nest.locals ≤ 16
   pub properties : IsTrue (list_all (λ p. names_arrays nest.decls p.kind) nest.props)
   pub bounds : IsTrue (list_all has_constants (flat_map (λ p. bounds_of p.kind) nest.props))
   pub in_scope : IsTrue (list_all knows_variables (body_lines nest))
+  pub of_locals : IsTrue (list_all (knows_locals nest) (body_lines nest))
   pub of_kinds : IsTrue (list_all (uses_kinds nest.decls) (body_lines nest))
   pub constants : IsTrue (list_all has_constants (flat_map (λ l. line_terms l.form) (body_lines nest)))
-  pub naturals : IsTrue (list_all is_natural (flat_map (λ l. line_numbers l.form) (body_lines nest)))
+  pub literals : IsTrue (list_all is_literal (flat_map (λ l. line_numbers l.form) (body_lines nest)))
   pub shallow : body_depth nest.body ≤ 5
   pub few_references : length (flat_map (references_on nest) (body_lines nest)) ≤ 16
   pub rising : IsTrue (rises_from nest.line (map (λ l. l.number) (body_lines nest)))

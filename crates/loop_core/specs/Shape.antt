@@ -19,11 +19,12 @@ pub record Loop : Type 0 where
   pub line : ℕ
   pub name : List ℕ
 
--- what is written on a line of the body: a loop, a guard or a statement
+-- what is written on a line of the body: a loop, a guard, or a statement that sets a place or keeps a local
 pub data Form : Type 0 where
   Repeats : (name : List ℕ) (lo hi : Term) → Form
   Guards : (left right : Term) → Form
   Sets : (array : ArrayId) (at : Term) (value : Expr) → Form
+  Keeps : (local : ℕ) (value : Expr) → Form
 
 -- one line of the body, with the loops round it, the innermost first
 pub record Line : Type 0 where
@@ -42,6 +43,8 @@ lines_step (Item-F.When line rel left right body) around =
     record { number = line; around = around; form = Guards left right } ∷ lines_of_all body around
 lines_step (Item-F.Set line array at value) around =
     record { number = line; around = around; form = Sets array at value } ∷ []
+lines_step (Item-F.Keep line local value) around =
+    record { number = line; around = around; form = Keeps local value } ∷ []
 
 abbrev pub item_lines : Item → List Loop → List Line
 item_lines = fold-Item (List Loop → List Line) lines_step
@@ -79,6 +82,7 @@ term_constants = fold-Term (List ℤ) (List ℤ) constants_step (λ t. t.atom ++
 abbrev pub expr_terms_step : Expr-F (List Term) → List Term
 expr_terms_step (Expr-F.Lit value) = []
 expr_terms_step (Expr-F.Read array at) = at ∷ []
+expr_terms_step (Expr-F.Local local) = []
 expr_terms_step (Expr-F.Op op left right) = left ++ right
 
 abbrev pub expr_terms : Expr → List Term
@@ -88,6 +92,7 @@ expr_terms = fold-Expr (List Term) expr_terms_step
 abbrev pub expr_arrays_step : Expr-F (List ArrayId) → List ArrayId
 expr_arrays_step (Expr-F.Lit value) = []
 expr_arrays_step (Expr-F.Read array at) = array ∷ []
+expr_arrays_step (Expr-F.Local local) = []
 expr_arrays_step (Expr-F.Op op left right) = left ++ right
 
 abbrev pub expr_arrays : Expr → List ArrayId
@@ -97,34 +102,56 @@ expr_arrays = fold-Expr (List ArrayId) expr_arrays_step
 abbrev pub expr_numbers_step : Expr-F (List ℤ) → List ℤ
 expr_numbers_step (Expr-F.Lit value) = value ∷ []
 expr_numbers_step (Expr-F.Read array at) = []
+expr_numbers_step (Expr-F.Local local) = []
 expr_numbers_step (Expr-F.Op op left right) = left ++ right
 
 abbrev pub expr_numbers : Expr → List ℤ
 expr_numbers = fold-Expr (List ℤ) expr_numbers_step
+
+-- the locals that an expression names, from left to right
+abbrev pub expr_locals_step : Expr-F (List ℕ) → List ℕ
+expr_locals_step (Expr-F.Lit value) = []
+expr_locals_step (Expr-F.Read array at) = []
+expr_locals_step (Expr-F.Local local) = local ∷ []
+expr_locals_step (Expr-F.Op op left right) = left ++ right
+
+abbrev pub expr_locals : Expr → List ℕ
+expr_locals = fold-Expr (List ℕ) expr_locals_step
 
 -- the index terms on a line, from left to right
 abbrev pub line_terms : Form → List Term
 line_terms (Repeats name lo hi) = lo ∷ hi ∷ []
 line_terms (Guards left right) = left ∷ right ∷ []
 line_terms (Sets array at value) = at ∷ expr_terms value
+line_terms (Keeps local value) = expr_terms value
 
 -- the data arrays on a line: those read, from left to right, and then the one written
 abbrev pub line_arrays : Form → List ArrayId
 line_arrays (Repeats name lo hi) = []
 line_arrays (Guards left right) = []
 line_arrays (Sets array at value) = expr_arrays value ++ array ∷ []
+line_arrays (Keeps local value) = expr_arrays value
 
 -- the numbers in the expression on a line
 abbrev pub line_numbers : Form → List ℤ
 line_numbers (Repeats name lo hi) = []
 line_numbers (Guards left right) = []
 line_numbers (Sets array at value) = expr_numbers value
+line_numbers (Keeps local value) = expr_numbers value
+
+-- the locals on a line: those that its expression names, from left to right, and then the one that it keeps
+abbrev pub line_locals : Form → List ℕ
+line_locals (Repeats name lo hi) = []
+line_locals (Guards left right) = []
+line_locals (Sets array at value) = expr_locals value
+line_locals (Keeps local value) = expr_locals value ++ local ∷ []
 
 -- the name of the variable that a line declares
 abbrev pub line_names : Form → List (List ℕ)
 line_names (Repeats name lo hi) = name ∷ []
 line_names (Guards left right) = []
 line_names (Sets array at value) = []
+line_names (Keeps local value) = []
 
 -- the arrays that items write, in the order of the text
 abbrev pub joined : List (List ArrayId) → List ArrayId
@@ -134,6 +161,7 @@ abbrev pub targets_step : Item-F (List ArrayId) → List ArrayId
 targets_step (Item-F.For line name lo hi body) = joined body
 targets_step (Item-F.When line rel left right body) = joined body
 targets_step (Item-F.Set line array at value) = array ∷ []
+targets_step (Item-F.Keep line local value) = []
 
 abbrev pub item_targets : Item → List ArrayId
 item_targets = fold-Item (List ArrayId) targets_step

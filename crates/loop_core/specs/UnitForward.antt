@@ -65,6 +65,7 @@ unit_forward = record {
       ∷ record { line = 7; kind = Sorted col ptr }
       ∷ record { line = 8; kind = Diagonal diag col ptr }
       ∷ [];
+  locals = [];
   line = 9;
   name = codes "i";
   body = start ∷ For 11 (codes "p") (plain (At ptr row)) (plain (At diag row)) (subtract ∷ []) ∷ [];

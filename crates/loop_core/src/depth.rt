@@ -37,5 +37,6 @@ fn is_within(item: &Item, limit: u32) -> bool
             body,
         } => has_depth_within(body.as_slice(), limit),
         Item::Set { .. } => true,
+        Item::Keep { .. } => true,
     }
 }

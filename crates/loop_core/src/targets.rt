@@ -52,5 +52,6 @@ fn is_written_by(item: &Item, array: ArrayId) -> bool
             at: _,
             value: _,
         } => array == *target,
+        Item::Keep { .. } => false,
     }
 }

@@ -1,5 +1,5 @@
 -- Lemmas on accesses: what the moves of a walk list, and which cells come of places.
-use Rattle.std.proofs.Common.{◌≡◌, ◌⊎◌, inl, inr, ℕ, zero, suc, ◌<◌, ℤ, pos, negsuc, Bool, true, false, ◌&&◌, nat_lt, if◌then◌else◌, Option, Some, None, List, [], ◌∷◌, ◌++◌, length, map, slice_index_or, refl, sym, ap, ◌∙◌, subst, append_assoc, arith}
+use Rattle.std.proofs.Common.{◌≡◌, ◌⊎◌, inl, inr, ℕ, zero, suc, ◌<◌, ℤ, pos, negsuc, Bool, true, false, ◌&&◌, nat_lt, if◌then◌else◌, Option, Some, None, List, [], ◌∷◌, ◌++◌, length, slice_index_or, refl, sym, ap, ◌∙◌, subst, append_assoc, arith}
 use Rattle.std.specs.List.{Contains, flat_map, filter_map, cons_option}
 use Rattle.std.proofs.lemmas.List.Elements.{Contains-append_left, Contains-append_right, Contains-append_cases}
 use borrow.Author.Tests.{ltb-true, lt-ltb}
@@ -9,11 +9,13 @@ use Rattle.loop_core.specs.declared.nest.Nest.{Nest}
 use Rattle.loop_core.specs.Lists.{Lists}
 use Rattle.loop_core.specs.Sizes.{declared_length}
 use Rattle.loop_core.specs.Shape.{is_target}
+use Rattle.loop_core.specs.declared.effect.Effect.{Effect}
+use Rattle.loop_core.specs.declared.effect.Effect.TheVariants.{Sets, Keeps}
 use Rattle.loop_core.specs.Instances.{Instance}
 use Rattle.loop_core.specs.declared.place.Place.{Place}
 use Rattle.loop_core.specs.Touches.{reads, place_of, IsTouchable, Reads, Writes}
 use Rattle.loop_meaning.specs.Leads.{Leads}
-use Rattle.loop_meaning.specs.Accesses.{target_of, cell_at, cell_of}
+use Rattle.loop_meaning.specs.Accesses.{places_set, cell_at, cell_of}
 
 first : {X : Type 0} (x : X) (xs : List X) → Contains (x ∷ xs) x
 first x xs = (0, omega arith, refl)
@@ -28,46 +30,45 @@ at_front y x xs (suc k) lt is = inr (k, omega arith, is)
 Contains-cons_cases : {X : Type 0} (y x : X) (xs : List X) → Contains (y ∷ xs) x → (y ≡ x) ⊎ Contains xs x
 Contains-cons_cases y x xs c = at_front y x xs c.0 c.1 c.2
 
--- a place is read by some instance just where it is among the places read
-pub reads_of : (xs : List Instance) (p : Place) → Contains (flat_map (λ s. reads s.value) xs) p → Reads xs p
-reads_of [] p c = absurd (omega (arith, c.1))
-reads_of (x ∷ xs) p c =
-    elim (Contains-append_cases (reads x.value) (flat_map (λ s. reads s.value) xs) p c) as (λ _. Reads (x ∷ xs) p) [
-      | inl here ↦ (x, first x xs, here)
-      | inr there ↦ let r = reads_of xs p there in (r.0, later x r.0 xs r.1, r.2)
-    ]
+-- a place is among those of some instance just where it is among those of all
+module _ (places : Instance → List Place) where
+  pub found_in : (xs : List Instance) (p : Place) → Contains (flat_map places xs) p → (s : Instance) × Contains xs s × Contains (places s) p
+  found_in [] p c = absurd (omega (arith, c.1))
+  found_in (x ∷ xs) p c =
+      elim (Contains-append_cases (places x) (flat_map places xs) p c) as (λ _. (s : Instance) × Contains (x ∷ xs) s × Contains (places s) p) [
+        | inl here ↦ (x, first x xs, here)
+        | inr there ↦ let r = found_in xs p there in (r.0, later x r.0 xs r.1, r.2)
+      ]
 
-reads_at : (xs : List Instance) (p : Place) (s : Instance) (k : ℕ) → k < length xs → slice_index_or xs k s ≡ s → Contains (reads s.value) p → Contains (flat_map (λ s. reads s.value) xs) p
-reads_at [] p s k lt is c = absurd (omega arith)
-reads_at (x ∷ xs) p s zero lt is c =
-    Contains-append_left (reads x.value) (flat_map (λ s. reads s.value) xs) p (subst (λ (z : Instance). Contains (reads z.value) p) (sym is) c)
-reads_at (x ∷ xs) p s (suc k) lt is c =
-    Contains-append_right (reads x.value) (flat_map (λ s. reads s.value) xs) p (reads_at xs p s k (omega arith) is c)
+  listed_at : (xs : List Instance) (p : Place) (s : Instance) (k : ℕ) → k < length xs → slice_index_or xs k s ≡ s → Contains (places s) p → Contains (flat_map places xs) p
+  listed_at [] p s k lt is c = absurd (omega arith)
+  listed_at (x ∷ xs) p s zero lt is c =
+      Contains-append_left (places x) (flat_map places xs) p (subst (λ (z : Instance). Contains (places z) p) (sym is) c)
+  listed_at (x ∷ xs) p s (suc k) lt is c =
+      Contains-append_right (places x) (flat_map places xs) p (listed_at xs p s k (omega arith) is c)
+
+  pub listed_in : (xs : List Instance) (p : Place) (s : Instance) → Contains xs s → Contains (places s) p → Contains (flat_map places xs) p
+  listed_in xs p s i c = listed_at xs p s i.0 i.1 i.2 c
+
+-- the places that instances read
+pub reads_of : (xs : List Instance) (p : Place) → Contains (flat_map (λ s. reads s.value) xs) p → Reads xs p
+reads_of xs p c = found_in (λ s. reads s.value) xs p c
 
 pub reads_in : (xs : List Instance) (p : Place) → Reads xs p → Contains (flat_map (λ s. reads s.value) xs) p
-reads_in xs p r = reads_at xs p r.0 r.1.0 r.1.1 r.1.2 r.2
+reads_in xs p r = listed_in (λ s. reads s.value) xs p r.0 r.1 r.2
 
--- a place is written by some instance just where it is among their targets
-targets_at : (xs : List Instance) (p : Place) (k : ℕ) → k < length (map target_of xs) → slice_index_or (map target_of xs) k p ≡ p → Writes xs p
-targets_at [] p k lt is = absurd (omega arith)
-targets_at (x ∷ xs) p zero lt is = (x, first x xs, ap (λ (q : Place). q.array) is, ap (λ (q : Place). q.at) is)
-targets_at (x ∷ xs) p (suc k) lt is = let r = targets_at xs p k (omega arith) is in (r.0, later x r.0 xs r.1, r.2, r.3)
+-- the places that instances set
+set_of : (e : Effect) (p : Place) → Contains (places_set e) p → e ≡ Sets p
+set_of (Sets place) p (zero, lt, is) = ap Sets is
+set_of (Sets place) p (suc k, lt, is) = absurd (omega (arith, lt))
+set_of (Keeps local) p c = absurd (omega (arith, c.1))
 
-pub writes_of : (xs : List Instance) (p : Place) → Contains (map target_of xs) p → Writes xs p
-writes_of xs p c = targets_at xs p c.0 c.1 c.2
+pub writes_of : (xs : List Instance) (p : Place) → Contains (flat_map (λ s. places_set s.effect) xs) p → Writes xs p
+writes_of xs p c = let r = found_in (λ s. places_set s.effect) xs p c in (r.0, r.1, set_of r.0.effect p r.2)
 
-target_is : (s : Instance) (p : Place) → s.array ≡ p.array → s.at ≡ p.at → target_of s ≡ p
-target_is s p a t =
-    ap (λ (array : ArrayId). let q : Place = record { array = array; at = s.at } in q) a
-    ∙ ap (λ (at : ℤ). let q : Place = record { array = p.array; at = at } in q) t
-
-writes_at : (xs : List Instance) (p : Place) (s : Instance) (k : ℕ) → k < length xs → slice_index_or xs k s ≡ s → s.array ≡ p.array → s.at ≡ p.at → Contains (map target_of xs) p
-writes_at [] p s k lt is a t = absurd (omega arith)
-writes_at (x ∷ xs) p s zero lt is a t = (0, omega arith, ap target_of is ∙ target_is s p a t)
-writes_at (x ∷ xs) p s (suc k) lt is a t = later (target_of x) p (map target_of xs) (writes_at xs p s k (omega arith) is a t)
-
-pub writes_in : (xs : List Instance) (p : Place) → Writes xs p → Contains (map target_of xs) p
-writes_in xs p w = writes_at xs p w.0 w.1.0 w.1.1 w.1.2 w.2 w.3
+pub writes_in : (xs : List Instance) (p : Place) → Writes xs p → Contains (flat_map (λ s. places_set s.effect) xs) p
+writes_in xs p w =
+    listed_in (λ s. places_set s.effect) xs p w.0 w.1 (subst (λ (e : Effect). Contains (places_set e) p) (sym w.2) (first p []))
 
 -- the cell of a place can be touched and stands there
 found : (b : Bool) (d c : Cell) → (if b then Some d else None) ≡ Some c → (b ≡ true) × (d ≡ c)
@@ -136,16 +137,9 @@ append_nil [] = refl
 append_nil (p ∷ ps) = ap (λ (qs : List Place). p ∷ qs) (append_nil ps)
 
 -- what the moves of a walk list
-pub listed_reads : {S : Type 0} (places : S → List Place) (moves : S → Instance → S → Type 0) → ((x : S) (i : Instance) (y : S) → moves x i y → places y ≡ places x ++ reads i.value) → (s : S) (xs : List Instance) (t : S) → Leads moves s xs t → places t ≡ places s ++ flat_map (λ i. reads i.value) xs
-listed_reads places moves step s [] t l = ap places (sym l) ∙ sym (append_nil (places s))
-listed_reads places moves step s (x ∷ xs) t l =
-    listed_reads places moves step l.0 xs t l.2
-    ∙ ap (λ (ps : List Place). ps ++ flat_map (λ i. reads i.value) xs) (step s x l.0 l.1)
-    ∙ append_assoc (places s) (reads x.value) (flat_map (λ i. reads i.value) xs)
-
-pub listed_targets : {S : Type 0} (places : S → List Place) (moves : S → Instance → S → Type 0) → ((x : S) (i : Instance) (y : S) → moves x i y → places y ≡ places x ++ target_of i ∷ []) → (s : S) (xs : List Instance) (t : S) → Leads moves s xs t → places t ≡ places s ++ map target_of xs
-listed_targets places moves step s [] t l = ap places (sym l) ∙ sym (append_nil (places s))
-listed_targets places moves step s (x ∷ xs) t l =
-    listed_targets places moves step l.0 xs t l.2
-    ∙ ap (λ (ps : List Place). ps ++ map target_of xs) (step s x l.0 l.1)
-    ∙ append_assoc (places s) (target_of x ∷ []) (map target_of xs)
+pub listed : {S : Type 0} (places : S → List Place) (of : Instance → List Place) (moves : S → Instance → S → Type 0) → ((x : S) (i : Instance) (y : S) → moves x i y → places y ≡ places x ++ of i) → (s : S) (xs : List Instance) (t : S) → Leads moves s xs t → places t ≡ places s ++ flat_map of xs
+listed places of moves step s [] t l = ap places (sym l) ∙ sym (append_nil (places s))
+listed places of moves step s (x ∷ xs) t l =
+    listed places of moves step l.0 xs t l.2
+    ∙ ap (λ (ps : List Place). ps ++ flat_map of xs) (step s x l.0 l.1)
+    ∙ append_assoc (places s) (of x) (flat_map of xs)

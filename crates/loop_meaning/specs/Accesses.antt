@@ -1,5 +1,5 @@
 -- The places that instances access, and the cells that they touch.
-use Rattle.std.specs.Prelude.{◌⊎◌, ◌≡◌, ◌<◌, ℤ, pos, negsuc, ◌&&◌, nat_lt, if◌then◌else◌, Option, Some, None, List}
+use Rattle.std.specs.Prelude.{◌⊎◌, ◌≡◌, ◌<◌, ℤ, pos, negsuc, ◌&&◌, nat_lt, if◌then◌else◌, Option, Some, None, List, [], ◌∷◌}
 use Rattle.std.specs.List.{AllPairs}
 use Rattle.wave_base.specs.declared.types.ArrayId.{ArrayId}
 use Rattle.wave_base.specs.declared.types.Cell.{Cell}
@@ -7,7 +7,8 @@ use Rattle.loop_core.specs.declared.nest.Nest.{Nest}
 use Rattle.loop_core.specs.Lists.{Lists}
 use Rattle.loop_core.specs.Sizes.{declared_length}
 use Rattle.loop_core.specs.Shape.{is_target}
-use Rattle.loop_core.specs.Instances.{Instance}
+use Rattle.loop_core.specs.declared.effect.Effect.{Effect}
+use Rattle.loop_core.specs.declared.effect.Effect.TheVariants.{Sets, Keeps}
 use Rattle.loop_core.specs.declared.place.Place.{Place}
 
 -- cells are ordered by array and then by place
@@ -18,9 +19,10 @@ IsBelow b c = (b.array.0 < c.array.0) ⊎ ((b.array.0 ≡ c.array.0) × (b.at < 
 abbrev pub IsAscending : List Cell → Type 0
 IsAscending cells = AllPairs IsBelow cells
 
--- the place that an instance writes
-abbrev pub target_of : Instance → Place
-target_of s = record { array = s.array; at = s.at }
+-- the place that an effect sets: a local is none
+abbrev pub places_set : Effect → List Place
+places_set (Sets place) = place ∷ []
+places_set (Keeps local) = []
 
 -- the cell of a place, where that is a cell that can be touched
 abbrev pub cell_at : Lists → Nest → ArrayId → ℤ → Option Cell

@@ -11,8 +11,6 @@ use crate::places::touched;
 use loop_core::arrays::Arrays;
 use loop_core::nest::Nest;
 use std::alloc::Global;
-use std::marker::Brand;
-use std::sync::ledger::Blank;
 use wave_base::types::{Memory, RowId};
 
 /// The cells of written arrays that an iteration touches. An access outside its list touches none.
@@ -25,7 +23,7 @@ pub fn touches(alloc: Global, nest: &Nest, arrays: &Arrays, row: RowId) -> Resul
     ensures reads { IfOk result (λ t. (c : Cell) → Contains t.reads.items c ↔ ReadsCell arrays.now nest.now row.0 c) }
     ensures writes { IfOk result (λ t. (c : Cell) → Contains t.writes.items c ↔ WritesCell arrays.now nest.now row.0 c) }
 {
-    let made = list_accesses::<Brand>(alloc, nest, arrays, row, Blank::new(1))?;
+    let made = list_accesses(alloc, nest, arrays, row)?;
     let reads = touched(alloc, nest, arrays, made.reads.as_slice())?;
     let writes = touched(alloc, nest, arrays, made.writes.as_slice())?;
     Ok(Touches { reads, writes })

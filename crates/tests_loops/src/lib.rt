@@ -1,10 +1,10 @@
-//! Tests of loop texts, of nests and of what they mean.
+//! Tests of nests and of what they mean.
 #![tactic(auto)]
 
 #[cfg(test)]
 mod deep;
 #[cfg(test)]
-mod lines;
+mod locals;
 #[cfg(test)]
 mod meaning;
 #[cfg(test)]
@@ -15,10 +15,6 @@ mod operators;
 mod outside;
 #[cfg(test)]
 mod parts;
-#[cfg(test)]
-mod printing;
-#[cfg(test)]
-mod reading;
 #[cfg(test)]
 mod runs;
 #[cfg(test)]

@@ -22,6 +22,14 @@ fn operators_at_their_edges(rt: HostRuntime) {
         (Op::Quot, 7, -2, -3),
         (Op::Quot, -7, -2, 3),
         (Op::Quot, i64::MAX, -1, -9223372036854775807),
+        (Op::Min, i64::MIN, i64::MAX, i64::MIN),
+        (Op::Min, i64::MAX, i64::MIN, i64::MIN),
+        (Op::Min, -1, 0, -1),
+        (Op::Min, 5, 5, 5),
+        (Op::Max, i64::MIN, i64::MAX, i64::MAX),
+        (Op::Max, i64::MAX, i64::MIN, i64::MAX),
+        (Op::Max, -1, 0, 0),
+        (Op::Max, 5, 5, 5),
     ];
     for (op, left, right, word) in cases {
         assert_eq!(rt; operate(op, left, right), word);

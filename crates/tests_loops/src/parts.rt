@@ -1,5 +1,5 @@
 // Small nests written as lists.
-use Part::{Apply, At, Begin, For, Lit, N, Nnz, Num, Plus, Read, Set, Var, When};
+use Part::{Apply, At, Begin, For, Keep, Lit, Local, N, Nnz, Num, Plus, Read, Set, Var, When};
 use loop_core::name::Name;
 use loop_core::nest::{Atom, Expr, Item, Nest, Op, Rel, Side, Term, VarId};
 use sqlite_items::{Boxed, Items};
@@ -21,9 +21,11 @@ pub enum Part {
     // expressions, which take terms
     Lit(i64),
     Read(u8),
+    Local(u8),
     Apply(Op),
     // items; a block takes all items since its `Begin`
     Set(u8),
+    Keep(u8),
     Begin,
     For(u16),
     When(Rel),
@@ -80,8 +82,10 @@ impl Parts {
             Plus(plus) => self.push_plus(plus),
             Lit(word) => self.push_expr(Expr::Lit(word)),
             Read(array) => self.push_read(ArrayId(array)),
+            Local(local) => self.push_expr(Expr::Local(local)),
             Apply(op) => self.push_apply(alloc, op),
             Set(array) => self.push_set(ArrayId(array)),
+            Keep(local) => self.push_keep(local),
             Begin => self.push_block(Items::new(alloc)),
             For(line) => self.push_for(line),
             When(rel) => self.push_when(rel),
@@ -116,6 +120,15 @@ impl Parts {
             line: 0,
             array,
             at,
+            value,
+        })
+    }
+
+    fn push_keep(&mut self, local: u8) -> Result<(), Fail> {
+        let value = self.expr()?;
+        self.push_item(Item::Keep {
+            line: 0,
+            local,
             value,
         })
     }
@@ -172,6 +185,7 @@ pub fn nest_of(alloc: Global, parts: &[Part]) -> Result<Nest, Fail> {
     Ok(Nest {
         decls: Items::new(alloc),
         props: Items::new(alloc),
+        locals: Items::new(alloc),
         line: 1,
         name: name()?,
         body: made.block()?,

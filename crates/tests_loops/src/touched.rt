@@ -1,5 +1,5 @@
 // Cells that a small nest touches.
-use crate::parts::Part::{Apply, At, Begin, For, Num, Plus, Read, Set, Var};
+use crate::parts::Part::{Apply, At, Begin, For, Keep, Local, Num, Plus, Read, Set, Var};
 use crate::parts::{Part, name, nest_of, push_list};
 use loop_core::arrays::Arrays;
 use loop_core::decl::{Decl, DeclKind, Form, Size, Source};
@@ -114,5 +114,24 @@ fn no_cell_outside_written_arrays(rt: HostRuntime) -> Result<(), Fail> {
     ];
     let cells = touched(&rt, rt.alloc(), &parts)?;
     assert!(rt; cells.reads.is_empty() && cells.writes.is_empty());
+    Ok(())
+}
+
+// Local 4 is no cell, though array 4 is one that is written; what a local keeps is read.
+#[test]
+fn a_local_is_no_cell(rt: HostRuntime) -> Result<(), Fail> {
+    let parts = [
+        Num(3),
+        Read(4),
+        Local(4),
+        Apply(Op::Add),
+        Keep(4),
+        Num(2),
+        Local(4),
+        Set(4),
+    ];
+    let cells = touched(&rt, rt.alloc(), &parts)?;
+    assert_eq!(rt; digits(cells.reads.as_slice()), 43);
+    assert_eq!(rt; digits(cells.writes.as_slice()), 42);
     Ok(())
 }

@@ -1,5 +1,5 @@
 -- Arithmetic on words of 64 bits: the true result, reduced once to the range from -2 ^ 63 to 2 ^ 63 - 1.
-use Rattle.std.specs.Prelude.{ℤ, pos, ◌+ℤ◌, ◌-ℤ◌, ◌*ℤ◌, zero, suc, negsuc}
+use Rattle.std.specs.Prelude.{ℤ, pos, ◌+ℤ◌, ◌-ℤ◌, ◌*ℤ◌, zero, suc, negsuc, int_lt, if◌then◌else◌}
 use Rattle.std.specs.Int.{int_wrap, w64}
 use Rattle.std.specs.Int.RustNames.{int_div}
 
@@ -21,3 +21,10 @@ abbrev pub wrapped_quotient : ℤ → ℤ → ℤ
 wrapped_quotient a (pos zero) = pos zero
 wrapped_quotient a (pos (suc b)) = wrapped (int_div a (pos (suc b)))
 wrapped_quotient a (negsuc b) = wrapped (int_div a (negsuc b))
+
+-- the lesser of two numbers, and the greater
+abbrev pub lesser : ℤ → ℤ → ℤ
+lesser a b = if int_lt b a then b else a
+
+abbrev pub greater : ℤ → ℤ → ℤ
+greater a b = if int_lt a b then b else a

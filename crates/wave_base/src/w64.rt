@@ -1,6 +1,6 @@
 // Arithmetic on 64-bit words.
 ghost use Rattle.std.specs.Prelude.{◌≡◌};
-ghost use Rattle.wave_base.specs.Word.{wrapped_sum, wrapped_difference, wrapped_product, wrapped_quotient};
+ghost use Rattle.wave_base.specs.Word.{wrapped_sum, wrapped_difference, wrapped_product, wrapped_quotient, lesser, greater};
 
 /// `a + b` modulo 2^64.
 pub fn add(a: i64, b: i64) -> i64
@@ -34,4 +34,18 @@ pub fn quot(a: i64, b: i64) -> i64
     } else {
         a / b
     }
+}
+
+/// The lesser of two words.
+pub fn min(a: i64, b: i64) -> i64
+    ensures { result ≡ lesser a b }
+{
+    if b < a { b } else { a }
+}
+
+/// The greater of two words.
+pub fn max(a: i64, b: i64) -> i64
+    ensures { result ≡ greater a b }
+{
+    if a < b { b } else { a }
 }
