@@ -13,7 +13,7 @@ use Rattle.loop_core.specs.declared.nest.Item.TheViews.{roll-Item}
 use Rattle.loop_core.specs.declared.nest.Item.TheFolds.{ind-Item, fold-roll-Item, map-Item}
 use Rattle.loop_syntax.specs.declared.items.Head.{Head}
 use Rattle.loop_syntax.specs.declared.items.Head.TheVariants as heads
-use Rattle.loop_syntax.specs.Nesting.{Mark, Opens, Sets, Ends, joined, marks_step, item_marks, marks}
+use Rattle.loop_syntax.specs.Nesting.{Mark, Opens, Sets, Keeps, Ends, joined, marks_step, item_marks, marks}
 use Rattle.loop_laws.specs.Renumbered.{renumbered_term, renumbered_value, item_step, renumbered_item}
 
 abbrev pub with_head : (ℕ → ℕ) → Head → Head
@@ -23,6 +23,7 @@ with_head f (heads.When rel left right) = heads.When rel (renumbered_term f left
 abbrev pub with_mark : (ℕ → ℕ) → Mark → Mark
 with_mark f (Opens line head) = Opens (f line) (with_head f head)
 with_mark f (Sets line array at value) = Sets (f line) array (renumbered_term f at) (renumbered_value f value)
+with_mark f (Keeps line local value) = Keeps (f line) local (renumbered_value f value)
 with_mark f Ends = Ends
 
 for_item : (line : ℕ) (name : List ℕ) (lo hi : Term) (body : List Item) → items.For line name lo hi body ≡ roll-Item (Item-F.For line name lo hi body)
@@ -36,6 +37,10 @@ when_item line rel left right body = refl
 set_item : (line : ℕ) (array : ArrayId) (at : Term) (value : Expr) → items.Set line array at value ≡ roll-Item (Item-F.Set line array at value)
 unfolding roll-Item hole.roll
 set_item line array at value = refl
+
+keep_item : (line local : ℕ) (value : Expr) → items.Keep line local value ≡ roll-Item (Item-F.Keep line local value)
+unfolding roll-Item hole.roll
+keep_item line local value = refl
 
 module _ (f : ℕ → ℕ) where
   abbrev SameItem : Item → Type 0
@@ -82,6 +87,10 @@ module _ (f : ℕ → ℕ) where
   item_case (Item-F.Set line array at value) =
       let x : Item-F Item = Item-F.Set line array at value in
       anew_is x (Item-F.Set (f line) array (renumbered_term f at) (renumbered_value f value)) (set_item (f line) array (renumbered_term f at) (renumbered_value f value))
+      ∙ sym (ap (map (with_mark f)) (marks_are x))
+  item_case (Item-F.Keep line local value) =
+      let x : Item-F Item = Item-F.Keep line local value in
+      anew_is x (Item-F.Keep (f line) local (renumbered_value f value)) (keep_item (f line) local (renumbered_value f value))
       ∙ sym (ap (map (with_mark f)) (marks_are x))
 
   item_with : (item : Item) → SameItem item

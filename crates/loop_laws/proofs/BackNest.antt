@@ -20,12 +20,12 @@ use Rattle.loop_syntax.specs.declared.items.Head.TheVariants as heads
 use Rattle.loop_syntax.specs.declared.numbered.Numbered.{Numbered}
 use Rattle.loop_syntax.specs.declared.scope.ArrayUse.{ArrayUse}
 use Rattle.loop_syntax.specs.Scope.{Scope, empty, scope_after}
-use Rattle.loop_syntax.specs.Resolved.{number_of, array_in, term_in, value_in, prop_in, declaration, property, mark, outer}
-use Rattle.loop_syntax.specs.Nesting.{Mark, Opens, Sets, Ends, marks}
+use Rattle.loop_syntax.specs.Resolved.{number_of, array_in, local_in, term_in, value_in, prop_in, declaration, property, local, mark, outer}
+use Rattle.loop_syntax.specs.Nesting.{Mark, Opens, Sets, Keeps, Ends, marks}
 use Rattle.loop_syntax.specs.TextNest.{gathered, body_marks, IsNestOf}
-use Rattle.loop_laws.specs.Renumbered.{renumbered_term, renumbered_item, renumbered_decl, renumbered_kind, renumbered_prop, renumbered}
+use Rattle.loop_laws.specs.Renumbered.{renumbered_term, renumbered_item, renumbered_decl, renumbered_local, renumbered_kind, renumbered_prop, renumbered}
 use Rattle.loop_laws.proofs.BackNumbers.{with_number}
-use Rattle.loop_laws.proofs.BackScope.{with_scope, uses_with, scope_with}
+use Rattle.loop_laws.proofs.BackScope.{with_scope, uses_with, local_with, scope_with}
 use Rattle.loop_laws.proofs.BackTerms.{term_with, value_with}
 use Rattle.loop_laws.proofs.BackItems.{with_mark, marks_with}
 
@@ -47,22 +47,30 @@ declaration_with : (f : ℕ → ℕ) (n : ℕ) (l : Line) → declaration (f n) 
 declaration_with f n (lines.Matrix name form) = refl
 declaration_with f n (lines.Index name size) = refl
 declaration_with f n (lines.Vector name size source) = refl
+declaration_with f n (lines.Local name) = refl
 declaration_with f n (lines.Prop prop) = refl
 declaration_with f n (lines.Loop name) = refl
 declaration_with f n (lines.For name lo hi) = refl
 declaration_with f n (lines.When rel left right) = refl
 declaration_with f n (lines.Set array at value) = refl
+declaration_with f n (lines.Keep name value) = refl
 declaration_with f n lines.End = refl
+
+local_line_with : (f : ℕ → ℕ) (n : ℕ) (l : Line) → local (f n) l ≡ map (renumbered_local f) (local n l)
+local_line_with f n (lines.Local name) = refl
+local_line_with f n _ = refl
 
 outer_loop_with : (f : ℕ → ℕ) (n : ℕ) (l : Line) → outer (f n) l ≡ map (with_outer f) (outer n l)
 outer_loop_with f n (lines.Matrix name form) = refl
 outer_loop_with f n (lines.Index name size) = refl
 outer_loop_with f n (lines.Vector name size source) = refl
+outer_loop_with f n (lines.Local name) = refl
 outer_loop_with f n (lines.Prop prop) = refl
 outer_loop_with f n (lines.Loop name) = refl
 outer_loop_with f n (lines.For name lo hi) = refl
 outer_loop_with f n (lines.When rel left right) = refl
 outer_loop_with f n (lines.Set array at value) = refl
+outer_loop_with f n (lines.Keep name value) = refl
 outer_loop_with f n lines.End = refl
 
 module _ (f : ℕ → ℕ) (nought : f 0 ≡ 0) where
@@ -88,11 +96,13 @@ module _ (f : ℕ → ℕ) (nought : f 0 ≡ 0) where
   property_with s n (lines.Matrix name form) = refl
   property_with s n (lines.Index name size) = refl
   property_with s n (lines.Vector name size source) = refl
+  property_with s n (lines.Local name) = refl
   property_with s n (lines.Prop prop) = ap (λ (kind : PropKind). let p : PropDecl = record { line = f n; kind = kind } in p ∷ []) (prop_with s prop)
   property_with s n (lines.Loop name) = refl
   property_with s n (lines.For name lo hi) = refl
   property_with s n (lines.When rel left right) = refl
   property_with s n (lines.Set array at value) = refl
+  property_with s n (lines.Keep name value) = refl
   property_with s n lines.End = refl
 
   set_with : (s : Scope) (n : ℕ) (array : ArrayName) (at : NamedTerm) (value : NamedExpr) → mark (with_scope f s) (f n) (lines.Set array at value) ≡ map (with_mark f) (mark s n (lines.Set array at value))
@@ -101,10 +111,16 @@ module _ (f : ℕ → ℕ) (nought : f 0 ≡ 0) where
       ∙ ap (λ (t : Term). Sets (f n) (array_in s array) t (value_in (with_scope f s) value) ∷ []) (term_with f nought s at)
       ∙ ap (λ (e : Expr). Sets (f n) (array_in s array) (renumbered_term f (term_in s at)) e ∷ []) (value_with f nought s value)
 
+  keep_with : (s : Scope) (n : ℕ) (name : List ℕ) (value : NamedExpr) → mark (with_scope f s) (f n) (lines.Keep name value) ≡ map (with_mark f) (mark s n (lines.Keep name value))
+  keep_with s n name value =
+      ap (λ (k : ℕ). Keeps (f n) k (value_in (with_scope f s) value) ∷ []) (local_with f s name)
+      ∙ ap (λ (e : Expr). Keeps (f n) (local_in s name) e ∷ []) (value_with f nought s value)
+
   mark_with : (s : Scope) (n : ℕ) (l : Line) → mark (with_scope f s) (f n) l ≡ map (with_mark f) (mark s n l)
   mark_with s n (lines.Matrix name form) = refl
   mark_with s n (lines.Index name size) = refl
   mark_with s n (lines.Vector name size source) = refl
+  mark_with s n (lines.Local name) = refl
   mark_with s n (lines.Prop prop) = refl
   mark_with s n (lines.Loop name) = refl
   mark_with s n (lines.For name lo hi) =
@@ -114,6 +130,7 @@ module _ (f : ℕ → ℕ) (nought : f 0 ≡ 0) where
       ap (λ (t : Term). Opens (f n) (heads.When rel t (term_in (with_scope f s) right)) ∷ []) (term_with f nought s left)
       ∙ ap (λ (t : Term). Opens (f n) (heads.When rel (renumbered_term f (term_in s left)) t) ∷ []) (term_with f nought s right)
   mark_with s n (lines.Set array at value) = set_with s n array at value
+  mark_with s n (lines.Keep name value) = keep_with s n name value
   mark_with s n lines.End = refl
 
   body_with : (body : List Item) (ms : List Mark) → marks body ++ Ends ∷ [] ≡ ms → marks (map (renumbered_item f) body) ++ Ends ∷ [] ≡ map (with_mark f) ms
@@ -124,6 +141,7 @@ module _ (f : ℕ → ℕ) (nought : f 0 ≡ 0) where
   nest_with ls nest is = record {
     decls = ap (map (renumbered_decl f)) is.decls ∙ sym (gathered_with (λ s l. declaration l.number l.line) (renumbered_decl f) f (λ s l. declaration_with f l.number l.line) empty ls);
     props = ap (map (renumbered_prop f)) is.props ∙ sym (gathered_with (λ s l. property s l.number l.line) (renumbered_prop f) f (λ s l. property_with s l.number l.line) empty ls);
+    locals = ap (map (renumbered_local f)) is.locals ∙ sym (gathered_with (λ s l. local l.number l.line) (renumbered_local f) f (λ s l. local_line_with f l.number l.line) empty ls);
     loop = gathered_with (λ s l. outer l.number l.line) (with_outer f) f (λ s l. outer_loop_with f l.number l.line) empty ls ∙ ap (map (with_outer f)) is.loop;
     body = body_with nest.body (body_marks ls) is.body ∙ sym (gathered_with (λ s l. mark s l.number l.line) (with_mark f) f (λ s l. mark_with s l.number l.line) empty ls);
   }

@@ -20,13 +20,13 @@ use Rattle.loop_lines.specs.Reading.{or_else}
 use Rattle.loop_lines.specs.Words.{either}
 use Rattle.loop_syntax.specs.declared.refusal.NameKind.{NameKind}
 use Rattle.loop_syntax.specs.declared.refusal.LimitKind.{LimitKind}
-use Rattle.loop_syntax.specs.declared.refusal.LimitKind.TheVariants.{Arrays, Depth, References}
+use Rattle.loop_syntax.specs.declared.refusal.LimitKind.TheVariants.{Arrays, Locals, Depth, References}
 use Rattle.loop_syntax.specs.declared.scope.Meaning.{Meaning}
 use Rattle.loop_syntax.specs.declared.scope.Meaning.TheVariants as meanings
 use Rattle.loop_syntax.specs.declared.scope.ArrayUse.{ArrayUse}
 use Rattle.loop_syntax.specs.declared.numbered.Numbered.{Numbered}
 use Rattle.loop_syntax.specs.Scope.{Scope, variables, meaning_of, scope_after, use_of}
-use Rattle.loop_syntax.specs.NameRules.{new_fault, variable_fault, index_fault, sized_fault, alike_fault, data_fault, target_fault, atom_fault, term_fault, terms_fault, value_step, value_fault, prop_fault, line_fault, first_fault}
+use Rattle.loop_syntax.specs.NameRules.{new_fault, variable_fault, local_fault, kept_fault, index_fault, sized_fault, alike_fault, data_fault, target_fault, atom_fault, term_fault, terms_fault, value_step, value_fault, prop_fault, line_fault, first_fault}
 use Rattle.loop_syntax.specs.Resolved.{number_of}
 use Rattle.loop_syntax.specs.Counts.{data_arrays, target, targets, is_written, references, passed, constant_limit, limits_at, first_passed}
 use Rattle.loop_laws.proofs.BackNumbers.{with_number}
@@ -44,6 +44,23 @@ variable_with f (Some (meanings.Matrix form parts)) = refl
 variable_with f (Some (meanings.Indexes size number)) = refl
 variable_with f (Some (meanings.Holds size number)) = refl
 variable_with f (Some (meanings.Variable line)) = refl
+variable_with f (Some (meanings.Local number)) = refl
+
+own_with : (f : ℕ → ℕ) (m : Option Meaning) → local_fault (option_map (with_meaning f) m) ≡ local_fault m
+own_with f None = refl
+own_with f (Some (meanings.Matrix form parts)) = refl
+own_with f (Some (meanings.Indexes size number)) = refl
+own_with f (Some (meanings.Holds size number)) = refl
+own_with f (Some (meanings.Variable line)) = refl
+own_with f (Some (meanings.Local number)) = refl
+
+kept_with : (f : ℕ → ℕ) (m : Option Meaning) → kept_fault (option_map (with_meaning f) m) ≡ kept_fault m
+kept_with f None = refl
+kept_with f (Some (meanings.Matrix form parts)) = refl
+kept_with f (Some (meanings.Indexes size number)) = refl
+kept_with f (Some (meanings.Holds size number)) = refl
+kept_with f (Some (meanings.Variable line)) = refl
+kept_with f (Some (meanings.Local number)) = refl
 
 module _ (f : ℕ → ℕ) (s : Scope) where
   new_name_with : (name : List ℕ) → new_fault (meaning_of (with_scope f s) name) ≡ new_fault (meaning_of s name)
@@ -66,6 +83,7 @@ module _ (f : ℕ → ℕ) (s : Scope) where
   step_with (NamedExpr-F.Lit value) = refl
   step_with (NamedExpr-F.Read array at) =
       ap (λ (u : ArrayName → ArrayUse). either (data_fault (u array)) (term_fault (with_scope f s) at)) (uses_with f s) ∙ ap (either (data_fault (use_of s array))) (term_with at)
+  step_with (NamedExpr-F.Local name) = ap local_fault (meaning_with f s name) ∙ own_with f (meaning_of s name)
   step_with (NamedExpr-F.Op op left right) = refl
 
   value_with : (e : NamedExpr) → value_fault (with_scope f s) e ≡ value_fault s e
@@ -89,16 +107,23 @@ module _ (f : ℕ → ℕ) (s : Scope) where
       ∙ ap (λ (x : Option NameKind). either (either (target_fault (use_of s array)) x) (value_fault (with_scope f s) value)) (term_with at)
       ∙ ap (either (either (target_fault (use_of s array)) (term_fault s at))) (value_with value)
 
+  keep_with : (name : List ℕ) (value : NamedExpr) → line_fault (with_scope f s) (lines.Keep name value) ≡ line_fault s (lines.Keep name value)
+  keep_with name value =
+      ap (λ (x : Option NameKind). either x (value_fault (with_scope f s) value)) (ap kept_fault (meaning_with f s name) ∙ kept_with f (meaning_of s name))
+      ∙ ap (either (kept_fault (meaning_of s name))) (value_with value)
+
   line_fault_with : (l : Line) → line_fault (with_scope f s) l ≡ line_fault s l
   line_fault_with (lines.Matrix name form) = new_name_with name
   line_fault_with (lines.Index name size) = new_name_with name
   line_fault_with (lines.Vector name size source) = new_name_with name
+  line_fault_with (lines.Local name) = new_name_with name
   line_fault_with (lines.Prop prop) = prop_with prop
   line_fault_with (lines.Loop name) = new_name_with name
   line_fault_with (lines.For name lo hi) =
       ap (λ (x : Option NameKind). either x (terms_fault (with_scope f s) lo hi)) (new_name_with name) ∙ ap (either (new_fault (meaning_of s name))) (terms_with lo hi)
   line_fault_with (lines.When rel left right) = terms_with left right
   line_fault_with (lines.Set array at value) = set_with array at value
+  line_fault_with (lines.Keep name value) = keep_with name value
   line_fault_with lines.End = refl
 
 -- ---- the first line that breaks a rule
@@ -131,11 +156,13 @@ target_with : (f : ℕ → ℕ) (s : Scope) (l : Line) → target (with_scope f 
 target_with f s (lines.Matrix name form) = refl
 target_with f s (lines.Index name size) = refl
 target_with f s (lines.Vector name size source) = refl
+target_with f s (lines.Local name) = refl
 target_with f s (lines.Prop prop) = refl
 target_with f s (lines.Loop name) = refl
 target_with f s (lines.For name lo hi) = refl
 target_with f s (lines.When rel left right) = refl
 target_with f s (lines.Set array at value) = ap (λ (u : ArrayName → ArrayUse). number_of (u array) ∷ []) (uses_with f s)
+target_with f s (lines.Keep name value) = refl
 target_with f s lines.End = refl
 
 pub targets_with : (f : ℕ → ℕ) (s : Scope) (ls : List Numbered) → targets (with_scope f s) (map (with_number f) ls) ≡ targets s ls
@@ -150,7 +177,7 @@ depth_with f s = ap length (variables_with f s.blocks) ∙ length-map (variables
 
 limit_with : (f : ℕ → ℕ) (l : Line) (s : Scope) (count : ℕ) → limits_at l (with_scope f s) count ≡ limits_at l s count
 limit_with f l s count =
-    ap (λ (d : ℕ). either (constant_limit l) (either (passed (nat_lt 64 s.arrays) Arrays) (either (passed (nat_lt 6 d) Depth) (passed (nat_lt 16 count) References)))) (depth_with f s)
+    ap (λ (d : ℕ). either (constant_limit l) (either (passed (nat_lt 64 s.arrays) Arrays) (either (passed (nat_lt 16 s.locals) Locals) (either (passed (nat_lt 6 d) Depth) (passed (nat_lt 16 count) References))))) (depth_with f s)
 
 references_with : (written : List ℕ) (f : ℕ → ℕ) (s : Scope) (l : Line) → references written (with_scope f s) l ≡ references written s l
 references_with written f s l = ap (λ (u : ArrayName → ArrayUse). length (filter (λ a. is_written written (number_of (u a))) (data_arrays l))) (uses_with f s)

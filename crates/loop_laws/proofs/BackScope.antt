@@ -14,13 +14,14 @@ use Rattle.loop_lines.specs.declared.block.Block.{Block}
 use Rattle.loop_lines.specs.declared.block.Block.TheVariants.{Repeated, Guarded}
 use Rattle.loop_syntax.specs.declared.scope.Known.{Known}
 use Rattle.loop_syntax.specs.Scope.{Scope, variables, known, found, meaning_of, outer_blocks, parts_from, scope_behind, own_use, dotted_use, use_of}
-use Rattle.loop_syntax.specs.Resolved.{loop_line}
+use Rattle.loop_syntax.specs.Resolved.{loop_line, local_number, local_in}
 
 abbrev pub with_meaning : (ℕ → ℕ) → Meaning → Meaning
 with_meaning f (meanings.Matrix form parts) = meanings.Matrix form parts
 with_meaning f (meanings.Indexes size number) = meanings.Indexes size number
 with_meaning f (meanings.Holds size number) = meanings.Holds size number
 with_meaning f (meanings.Variable line) = meanings.Variable (f line)
+with_meaning f (meanings.Local number) = meanings.Local number
 
 abbrev with_known : (ℕ → ℕ) → Known → Known
 with_known f k = record { name = k.name; meaning = with_meaning f k.meaning }
@@ -30,7 +31,7 @@ with_block f (Repeated line name) = Repeated (f line) name
 with_block f Guarded = Guarded
 
 abbrev pub with_scope : (ℕ → ℕ) → Scope → Scope
-with_scope f s = record { declared = map (with_known f) s.declared; arrays = s.arrays; blocks = map (with_block f) s.blocks }
+with_scope f s = record { declared = map (with_known f) s.declared; arrays = s.arrays; locals = s.locals; blocks = map (with_block f) s.blocks }
 
 -- ---- what names stand for
 
@@ -59,6 +60,7 @@ own_with f (Some (meanings.Matrix form parts)) = refl
 own_with f (Some (meanings.Indexes size number)) = refl
 own_with f (Some (meanings.Holds size number)) = refl
 own_with f (Some (meanings.Variable line)) = refl
+own_with f (Some (meanings.Local number)) = refl
 
 dotted_with : (f : ℕ → ℕ) (part : List ℕ) (m : Option Meaning) → dotted_use (option_map (with_meaning f) m) part ≡ dotted_use m part
 dotted_with f part None = refl
@@ -66,6 +68,7 @@ dotted_with f part (Some (meanings.Matrix form parts)) = refl
 dotted_with f part (Some (meanings.Indexes size number)) = refl
 dotted_with f part (Some (meanings.Holds size number)) = refl
 dotted_with f part (Some (meanings.Variable line)) = refl
+dotted_with f part (Some (meanings.Local number)) = refl
 
 use_with : (f : ℕ → ℕ) (s : Scope) (array : ArrayName) → use_of (with_scope f s) array ≡ use_of s array
 use_with f s (Own name) = ap own_use (meaning_with f s name) ∙ own_with f (meaning_of s name)
@@ -81,31 +84,46 @@ loop_with f nought (Some (meanings.Matrix form parts)) = sym nought
 loop_with f nought (Some (meanings.Indexes size number)) = sym nought
 loop_with f nought (Some (meanings.Holds size number)) = sym nought
 loop_with f nought (Some (meanings.Variable line)) = refl
+loop_with f nought (Some (meanings.Local number)) = sym nought
 
 pub line_with : (f : ℕ → ℕ) → f 0 ≡ 0 → (s : Scope) (name : List ℕ) → loop_line (meaning_of (with_scope f s) name) ≡ f (loop_line (meaning_of s name))
 line_with f nought s name = ap loop_line (meaning_with f s name) ∙ loop_with f nought (meaning_of s name)
 
+number_with : (f : ℕ → ℕ) (m : Option Meaning) → local_number (option_map (with_meaning f) m) ≡ local_number m
+number_with f None = refl
+number_with f (Some (meanings.Matrix form parts)) = refl
+number_with f (Some (meanings.Indexes size number)) = refl
+number_with f (Some (meanings.Holds size number)) = refl
+number_with f (Some (meanings.Variable line)) = refl
+number_with f (Some (meanings.Local number)) = refl
+
+-- and so do locals
+pub local_with : (f : ℕ → ℕ) (s : Scope) (name : List ℕ) → local_in (with_scope f s) name ≡ local_in s name
+local_with f s name = ap local_number (meaning_with f s name) ∙ number_with f (meaning_of s name)
+
 -- ---- what lines leave
 
-abbrev scope_of : List Known → ℕ → List Block → Scope
-scope_of ks arrays blocks = record { declared = ks; arrays = arrays; blocks = blocks }
+abbrev scope_of : List Known → ℕ → ℕ → List Block → Scope
+scope_of ks arrays locals blocks = record { declared = ks; arrays = arrays; locals = locals; blocks = blocks }
 
-declared_with : (f : ℕ → ℕ) (s : Scope) (k : Known) (arrays : ℕ)
-    → scope_of (map (with_known f) s.declared ++ with_known f k ∷ []) (s.arrays + arrays) (map (with_block f) s.blocks) ≡ with_scope f (scope_of (s.declared ++ k ∷ []) (s.arrays + arrays) s.blocks)
-declared_with f s k arrays =
-    ap (λ (ks : List Known). scope_of ks (s.arrays + arrays) (map (with_block f) s.blocks)) (sym (map-append (with_known f) s.declared (k ∷ [])))
+declared_with : (f : ℕ → ℕ) (s : Scope) (k : Known) (arrays locals : ℕ)
+    → scope_of (map (with_known f) s.declared ++ with_known f k ∷ []) (s.arrays + arrays) (s.locals + locals) (map (with_block f) s.blocks) ≡ with_scope f (scope_of (s.declared ++ k ∷ []) (s.arrays + arrays) (s.locals + locals) s.blocks)
+declared_with f s k arrays locals =
+    ap (λ (ks : List Known). scope_of ks (s.arrays + arrays) (s.locals + locals) (map (with_block f) s.blocks)) (sym (map-append (with_known f) s.declared (k ∷ [])))
 
 outer_with : (f : ℕ → ℕ) (bs : List Block) → outer_blocks (map (with_block f) bs) ≡ map (with_block f) (outer_blocks bs)
 outer_with f [] = refl
 outer_with f (b ∷ bs) = refl
 
 pub scope_with : (f : ℕ → ℕ) (s : Scope) (n : ℕ) (l : Line) → scope_behind (with_scope f s) (f n) l ≡ with_scope f (scope_behind s n l)
-scope_with f s n (lines.Matrix name form) = declared_with f s (record { name = name; meaning = meanings.Matrix form (parts_from s.arrays) }) 4
-scope_with f s n (lines.Index name size) = declared_with f s (record { name = name; meaning = meanings.Indexes size s.arrays }) 1
-scope_with f s n (lines.Vector name size source) = declared_with f s (record { name = name; meaning = meanings.Holds size s.arrays }) 1
+scope_with f s n (lines.Matrix name form) = declared_with f s (record { name = name; meaning = meanings.Matrix form (parts_from s.arrays) }) 4 0
+scope_with f s n (lines.Index name size) = declared_with f s (record { name = name; meaning = meanings.Indexes size s.arrays }) 1 0
+scope_with f s n (lines.Vector name size source) = declared_with f s (record { name = name; meaning = meanings.Holds size s.arrays }) 1 0
+scope_with f s n (lines.Local name) = declared_with f s (record { name = name; meaning = meanings.Local s.locals }) 0 1
 scope_with f s n (lines.Prop prop) = refl
 scope_with f s n (lines.Loop name) = refl
 scope_with f s n (lines.For name lo hi) = refl
 scope_with f s n (lines.When rel left right) = refl
 scope_with f s n (lines.Set array at value) = refl
-scope_with f s n lines.End = ap (scope_of (map (with_known f) s.declared) s.arrays) (outer_with f s.blocks)
+scope_with f s n (lines.Keep name value) = refl
+scope_with f s n lines.End = ap (scope_of (map (with_known f) s.declared) s.arrays s.locals) (outer_with f s.blocks)

@@ -28,10 +28,10 @@ use Rattle.loop_lines.specs.declared.tree.NamedExpr.TheViews.{roll-NamedExpr}
 use Rattle.loop_lines.specs.declared.tree.NamedExpr.TheFolds.{ind-NamedExpr, fold-roll-NamedExpr, map-NamedExpr}
 use Rattle.loop_syntax.specs.declared.scope.ArrayUse.{ArrayUse}
 use Rattle.loop_syntax.specs.Scope.{Scope}
-use Rattle.loop_syntax.specs.Resolved.{number_of, array_in, variable_in, atom_step, term_step, term_in, value_step, value_in}
+use Rattle.loop_syntax.specs.Resolved.{number_of, array_in, variable_in, local_in, atom_step, term_step, term_in, value_step, value_in}
 use Rattle.loop_laws.specs.Renumbered.{renumbered_variable, renumbered_term, renumbered_value}
 use Rattle.loop_laws.specs.Renumbered as anew
-use Rattle.loop_laws.proofs.BackScope.{with_scope, uses_with, line_with}
+use Rattle.loop_laws.proofs.BackScope.{with_scope, uses_with, line_with, local_with}
 
 -- ---- terms with other numbers, layer by layer
 
@@ -62,6 +62,10 @@ literal_expr value = refl
 read_expr : (array : ArrayId) (at : Term) → exprs.Read array at ≡ roll-Expr (Expr-F.Read array at)
 unfolding roll-Expr hole.roll
 read_expr array at = refl
+
+local_expr : (local : ℕ) → exprs.Local local ≡ roll-Expr (Expr-F.Local local)
+unfolding roll-Expr hole.roll
+local_expr local = refl
 
 op_expr : (op : Op) (left right : Expr) → exprs.Op op left right ≡ roll-Expr (Expr-F.Op op left right)
 unfolding roll-Expr hole.roll
@@ -158,6 +162,11 @@ module _ (f : ℕ → ℕ) (nought : f 0 ≡ 0) (s : Scope) where
       ∙ ap (λ (a : ArrayId). exprs.Read a (term_in (with_scope f s) at)) (array_with array)
       ∙ ap (exprs.Read (array_in s array)) (term_with at)
       ∙ sym (ap (renumbered_value f) (expr_is s (NamedExpr-F.Read array at)) ∙ expr_layer (Expr-F.Read (array_in s array) (term_in s at)) (exprs.Read (array_in s array) (term_in s at)) (read_expr (array_in s array) (term_in s at)))
+  expr_case (NamedExpr-F.Local name) =
+      let local = local_in s name in
+      expr_is (with_scope f s) (NamedExpr-F.Local name)
+      ∙ ap (λ (n : ℕ). exprs.Local n) (local_with f s name)
+      ∙ sym (ap (renumbered_value f) (expr_is s (NamedExpr-F.Local name)) ∙ expr_layer (Expr-F.Local local) (exprs.Local local) (local_expr local))
   expr_case (NamedExpr-F.Op op left right) =
       let x : NamedExpr-F NamedExpr = NamedExpr-F.Op op left.0 right.0 in
       let a = value_in s left.0 in

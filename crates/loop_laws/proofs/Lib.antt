@@ -25,4 +25,5 @@ pub mod NestNames
 pub mod NestMatrix
 pub mod NestDistinct
 pub mod NestScopes
+pub mod NestLocals
 pub mod NestRead

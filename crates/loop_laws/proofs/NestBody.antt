@@ -19,7 +19,7 @@ use Rattle.loop_lines.specs.declared.block.Block.TheVariants.{Repeated, Guarded}
 use Rattle.loop_syntax.specs.Numbered.{numbered}
 use Rattle.loop_syntax.specs.Scope.{Scope, empty, outer_blocks, scope_behind, scope_after}
 use Rattle.loop_syntax.specs.Resolved.{mark, outer}
-use Rattle.loop_syntax.specs.Nesting.{Mark, Opens, Sets, Ends, joined, marks_step, item_marks, marks}
+use Rattle.loop_syntax.specs.Nesting.{Mark, Opens, Sets, Keeps, Ends, joined, marks_step, item_marks, marks}
 use Rattle.loop_syntax.specs.Stages.{Above, AreNested}
 use Rattle.loop_syntax.specs.TextNest.{gathered, IsNestOf, IsRead}
 use Rattle.loop_lines.proofs.Bools.{and_both}
@@ -36,6 +36,8 @@ lines_in bs (Opens line (heads.When rel left right) ∷ ms) =
     record { number = line; around = loops_of bs; form = shape.Guards left right } ∷ lines_in (Guarded ∷ bs) ms
 lines_in bs (Sets line array at value ∷ ms) =
     record { number = line; around = loops_of bs; form = shape.Sets array at value } ∷ lines_in bs ms
+lines_in bs (Keeps line local value ∷ ms) =
+    record { number = line; around = loops_of bs; form = shape.Keeps local value } ∷ lines_in bs ms
 lines_in bs (Ends ∷ ms) = lines_in (outer_blocks bs) ms
 
 -- ---- items have the lines of their marks
@@ -82,6 +84,10 @@ item_case (Item-F.Set line array at value) bs rest =
     let x : Item-F Item = Item-F.Set line array at value in
     ap (λ (l : List Mark). lines_in bs (l ++ rest)) (fold-roll-Item (List Mark) marks_step x)
     ∙ sym (ap (λ (f : List Loop → List BodyLine). f (loops_of bs) ++ lines_in bs rest) (fold-roll-Item (List Loop → List BodyLine) lines_step x))
+item_case (Item-F.Keep line local value) bs rest =
+    let x : Item-F Item = Item-F.Keep line local value in
+    ap (λ (l : List Mark). lines_in bs (l ++ rest)) (fold-roll-Item (List Mark) marks_step x)
+    ∙ sym (ap (λ (f : List Loop → List BodyLine). f (loops_of bs) ++ lines_in bs rest) (fold-roll-Item (List Loop → List BodyLine) lines_step x))
 
 item_lined : (item : Item) → HasLines item
 item_lined = ind-Item HasLines (λ x y is. subst (λ z. HasLines (roll-Item z)) is (item_case y))
@@ -114,6 +120,7 @@ inside : (s : Scope) (n : ℕ) (l : Line) (ls : List Numbered) → ((t : Scope) 
 inside s n (lines.Matrix name form) ls more one = more (scope_behind s n (lines.Matrix name form)) one
 inside s n (lines.Index name size) ls more one = more (scope_behind s n (lines.Index name size)) one
 inside s n (lines.Vector name size source) ls more one = more (scope_behind s n (lines.Vector name size source)) one
+inside s n (lines.Local name) ls more one = more (scope_behind s n (lines.Local name)) one
 inside s n (lines.Prop prop) ls more one = more s one
 inside s n (lines.Loop name) ls more one = absurd cc
 inside s n (lines.For name lo hi) ls more one =
@@ -122,6 +129,8 @@ inside s n (lines.When rel left right) ls more one =
     ap (λ (l : List BodyLine). body_line s (numbered_line n (lines.When rel left right)) ++ l) (more (scope_behind s n (lines.When rel left right)) one)
 inside s n (lines.Set array at value) ls more one =
     ap (λ (l : List BodyLine). body_line s (numbered_line n (lines.Set array at value)) ++ l) (more s one)
+inside s n (lines.Keep name value) ls more one =
+    ap (λ (l : List BodyLine). body_line s (numbered_line n (lines.Keep name value)) ++ l) (more s one)
 inside s n lines.End ls more one = more (scope_behind s n lines.End) one
 
 all_inside : (ls : List Numbered) (s : Scope) → loops_in s ls ≡ [] → lines_in s.blocks (given s ls) ≡ said s ls
@@ -148,6 +157,7 @@ above : (loop : ℕ × List ℕ) (s : Scope) (n : ℕ) (l : Line) (ls : List Num
 above loop s n (lines.Matrix name form) ls more nested one is = more (scope_behind s n (lines.Matrix name form)) nested one is
 above loop s n (lines.Index name size) ls more nested one is = more (scope_behind s n (lines.Index name size)) nested one is
 above loop s n (lines.Vector name size source) ls more nested one is = more (scope_behind s n (lines.Vector name size source)) nested one is
+above loop s n (lines.Local name) ls more nested one is = more (scope_behind s n (lines.Local name)) nested one is
 above loop s n (lines.Prop prop) ls more nested one is = more s nested one is
 above loop s n (lines.Loop name) ls more nested one is =
     let t = scope_behind s n (lines.Loop name) in
@@ -157,6 +167,7 @@ above loop s n (lines.Loop name) ls more nested one is =
 above loop s n (lines.For name lo hi) ls more nested one is = absurd cc
 above loop s n (lines.When rel left right) ls more nested one is = absurd cc
 above loop s n (lines.Set array at value) ls more nested one is = absurd cc
+above loop s n (lines.Keep name value) ls more nested one is = absurd cc
 above loop s n lines.End ls more nested one is = absurd cc
 
 all_above : (loop : ℕ × List ℕ) (ls : List Numbered) (s : Scope) → Goal loop s ls
@@ -181,11 +192,13 @@ rise_before : (m : ℕ) (s : Scope) (n : ℕ) (l : Line) (rest : List BodyLine) 
 rise_before m s n (lines.Matrix name form) rest lt more = more m (omega (arith, lt))
 rise_before m s n (lines.Index name size) rest lt more = more m (omega (arith, lt))
 rise_before m s n (lines.Vector name size source) rest lt more = more m (omega (arith, lt))
+rise_before m s n (lines.Local name) rest lt more = more m (omega (arith, lt))
 rise_before m s n (lines.Prop prop) rest lt more = more m (omega (arith, lt))
 rise_before m s n (lines.Loop name) rest lt more = more m (omega (arith, lt))
 rise_before m s n (lines.For name lo hi) rest lt more = and_both (nat_lt m n) (rises_from n (numbers rest)) (grind (arith, nat_tests, lt)) (more n (omega arith))
 rise_before m s n (lines.When rel left right) rest lt more = and_both (nat_lt m n) (rises_from n (numbers rest)) (grind (arith, nat_tests, lt)) (more n (omega arith))
 rise_before m s n (lines.Set array at value) rest lt more = and_both (nat_lt m n) (rises_from n (numbers rest)) (grind (arith, nat_tests, lt)) (more n (omega arith))
+rise_before m s n (lines.Keep name value) rest lt more = and_both (nat_lt m n) (rises_from n (numbers rest)) (grind (arith, nat_tests, lt)) (more n (omega arith))
 rise_before m s n lines.End rest lt more = more m (omega (arith, lt))
 
 rise_inside : (ls : List Numbered) (m n : ℕ) (s : Scope) → m < n → Rise n ls → IsTrue (rises_from m (numbers (said s ls)))
@@ -200,6 +213,7 @@ rise_above : (loop : ℕ × List ℕ) (k : ℕ) (s : Scope) (n : ℕ) (l : Line)
 rise_above loop k s n (lines.Matrix name form) ls more nested one h = more (scope_behind s n (lines.Matrix name form)) nested one h.1
 rise_above loop k s n (lines.Index name size) ls more nested one h = more (scope_behind s n (lines.Index name size)) nested one h.1
 rise_above loop k s n (lines.Vector name size source) ls more nested one h = more (scope_behind s n (lines.Vector name size source)) nested one h.1
+rise_above loop k s n (lines.Local name) ls more nested one h = more (scope_behind s n (lines.Local name)) nested one h.1
 rise_above loop k s n (lines.Prop prop) ls more nested one h = more s nested one h.1
 rise_above loop k s n (lines.Loop name) ls more nested one h =
     let t = scope_behind s n (lines.Loop name) in
@@ -207,6 +221,7 @@ rise_above loop k s n (lines.Loop name) ls more nested one h =
 rise_above loop k s n (lines.For name lo hi) ls more nested one h = absurd cc
 rise_above loop k s n (lines.When rel left right) ls more nested one h = absurd cc
 rise_above loop k s n (lines.Set array at value) ls more nested one h = absurd cc
+rise_above loop k s n (lines.Keep name value) ls more nested one h = absurd cc
 rise_above loop k s n lines.End ls more nested one h = absurd cc
 
 all_rise : (loop : ℕ × List ℕ) (ls : List Numbered) (k : ℕ) (s : Scope) → RiseGoal loop k s ls

@@ -23,7 +23,7 @@ use Rattle.loop_syntax.specs.declared.numbered.Numbered.{Numbered}
 use Rattle.loop_syntax.specs.Numbered.{numbered}
 use Rattle.loop_syntax.specs.Scope.{Scope, empty, scope_after, use_of}
 use Rattle.loop_syntax.specs.Resolved.{mark, array_in, value_in, number_of}
-use Rattle.loop_syntax.specs.Nesting.{Mark, Opens, Sets, Ends, joined, marks_step, item_marks, marks}
+use Rattle.loop_syntax.specs.Nesting.{Mark, Opens, Sets, Keeps, Ends, joined, marks_step, item_marks, marks}
 use Rattle.loop_syntax.specs.Counts.{reads, reads_step, target, targets, is_written, references, first_passed, is_within}
 use Rattle.loop_syntax.specs.Stages.{Above, AreNested}
 use Rattle.loop_syntax.specs.TextNest.{gathered, IsNestOf, IsRead}
@@ -38,6 +38,7 @@ abbrev written_in : List Mark → List ArrayId
 written_in [] = []
 written_in (Opens line head ∷ ms) = written_in ms
 written_in (Sets line array at value ∷ ms) = array ∷ written_in ms
+written_in (Keeps line local value ∷ ms) = written_in ms
 written_in (Ends ∷ ms) = written_in ms
 
 -- ---- items write the arrays that their marks write
@@ -81,6 +82,10 @@ item_case (Item-F.Set line array at value) rest =
     let x : Item-F Item = Item-F.Set line array at value in
     ap (λ (l : List Mark). written_in (l ++ rest)) (fold-roll-Item (List Mark) marks_step x)
     ∙ sym (ap (λ (l : List ArrayId). l ++ written_in rest) (fold-roll-Item (List ArrayId) targets_step x))
+item_case (Item-F.Keep line local value) rest =
+    let x : Item-F Item = Item-F.Keep line local value in
+    ap (λ (l : List Mark). written_in (l ++ rest)) (fold-roll-Item (List Mark) marks_step x)
+    ∙ sym (ap (λ (l : List ArrayId). l ++ written_in rest) (fold-roll-Item (List ArrayId) targets_step x))
 
 item_writes : (item : Item) → Writes item
 item_writes = ind-Item Writes (λ x y is. subst (λ z. Writes (roll-Item z)) is (item_case y))
@@ -105,11 +110,13 @@ one_line : (s : Scope) (n : ℕ) (l : Line) (rest : List Mark) → numbers (writ
 one_line s n (lines.Matrix name form) rest = refl
 one_line s n (lines.Index name size) rest = refl
 one_line s n (lines.Vector name size source) rest = refl
+one_line s n (lines.Local name) rest = refl
 one_line s n (lines.Prop prop) rest = refl
 one_line s n (lines.Loop name) rest = refl
 one_line s n (lines.For name lo hi) rest = refl
 one_line s n (lines.When rel left right) rest = refl
 one_line s n (lines.Set array at value) rest = refl
+one_line s n (lines.Keep name value) rest = refl
 one_line s n lines.End rest = refl
 
 text_writes : (s : Scope) (ls : List Numbered) → numbers (written_in (given s ls)) ≡ targets s ls
@@ -140,6 +147,7 @@ layer s x same = expr_layer expr_arrays_step s x ∙ same ∙ sym (ap (arrays_in
 expr_case : (s : Scope) (y : NamedExpr-F (ReadingExpr s)) → Reads s (roll-NamedExpr (map-NamedExpr (ReadingExpr s) NamedExpr (λ e. e.0) y))
 expr_case s (NamedExpr-F.Lit value) = layer s (NamedExpr-F.Lit value) refl
 expr_case s (NamedExpr-F.Read array at) = layer s (NamedExpr-F.Read array at) refl
+expr_case s (NamedExpr-F.Local name) = layer s (NamedExpr-F.Local name) refl
 expr_case s (NamedExpr-F.Op op left right) =
     let c = reads left.0 in
     let same = ap (λ (l : List ArrayId). l ++ expr_arrays (value_in s right.0)) left.1 ∙ ap (λ (l : List ArrayId). arrays_in s c ++ l) right.1 ∙ sym (map-append (array_in s) c (reads right.0)) in
@@ -183,6 +191,7 @@ line_refers : (nest : Nest) (written : List ℕ) → AreWritten nest written →
 line_refers nest written are s n (lines.Matrix name form) = refl
 line_refers nest written are s n (lines.Index name size) = refl
 line_refers nest written are s n (lines.Vector name size source) = refl
+line_refers nest written are s n (lines.Local name) = refl
 line_refers nest written are s n (lines.Prop prop) = refl
 line_refers nest written are s n (lines.Loop name) = refl
 line_refers nest written are s n (lines.For name lo hi) = refl
@@ -191,6 +200,10 @@ line_refers nest written are s n (lines.Set array at value) =
     ap length (append-nil (filter (is_target nest) (expr_arrays (value_in s value) ++ array_in s array ∷ [])))
     ∙ ap (λ (l : List ArrayId). length (filter (is_target nest) l)) (statement_arrays s array value)
     ∙ as_many (is_target nest) (λ a. is_written written (number_of (use_of s a))) (array_in s) (λ a. are (array_in s a)) (reads value ++ array ∷ [])
+line_refers nest written are s n (lines.Keep name value) =
+    ap length (append-nil (filter (is_target nest) (expr_arrays (value_in s value))))
+    ∙ ap (λ (l : List ArrayId). length (filter (is_target nest) l)) (value_reads s value)
+    ∙ as_many (is_target nest) (λ a. is_written written (number_of (use_of s a))) (array_in s) (λ a. are (array_in s a)) (reads value)
 line_refers nest written are s n lines.End = refl
 
 -- ---- few references

@@ -7,7 +7,7 @@ use Rattle.loop_syntax.specs.declared.numbered.Numbered.{Numbered}
 use Rattle.loop_lines.specs.declared.block.Block.{Block}
 use Rattle.loop_lines.specs.declared.block.Block.TheVariants.{Repeated, Guarded}
 use Rattle.loop_syntax.specs.Scope.{Scope, empty}
-use Rattle.loop_syntax.specs.Resolved.{array_in, term_in, value_in}
+use Rattle.loop_syntax.specs.Resolved.{array_in, local_in, term_in, value_in}
 use Rattle.loop_syntax.specs.TextNest.{gathered}
 
 -- the open loops, the innermost first
@@ -21,6 +21,7 @@ abbrev pub form_in : Scope → Line → List shape.Form
 form_in s (lines.For name lo hi) = shape.Repeats name (term_in s lo) (term_in s hi) ∷ []
 form_in s (lines.When rel left right) = shape.Guards (term_in s left) (term_in s right) ∷ []
 form_in s (lines.Set array at value) = shape.Sets (array_in s array) (term_in s at) (value_in s value) ∷ []
+form_in s (lines.Keep name value) = shape.Keeps (local_in s name) (value_in s value) ∷ []
 form_in s _ = []
 
 abbrev pub body_line : Scope → Numbered → List shape.Line

@@ -9,7 +9,7 @@ use Rattle.loop_core.specs.declared.nest.Term.{Term}
 use Rattle.loop_core.specs.declared.nest.Atom.TheOpen.{Term-F}
 use Rattle.loop_core.specs.declared.nest.Nest.{Nest}
 use Rattle.loop_core.specs.IsNest.{is_constant, has_constants, uses_kinds}
-use Rattle.loop_core.specs.Shape.{Loop, Form, Repeats, Guards, Sets, Line as BodyLine, line_terms, line_arrays, term_arrays, arrays_step, term_constants, constants_step, expr_terms, expr_terms_step, expr_arrays, expr_arrays_step}
+use Rattle.loop_core.specs.Shape.{Loop, Form, Repeats, Guards, Sets, Keeps, Line as BodyLine, line_terms, line_arrays, term_arrays, arrays_step, term_constants, constants_step, expr_terms, expr_terms_step, expr_arrays, expr_arrays_step}
 use Rattle.loop_core.specs.Sizes.{is_index, is_data}
 use Rattle.loop_lines.specs.declared.line.Line.{Line}
 use Rattle.loop_lines.specs.declared.line.Line.TheVariants as lines
@@ -25,8 +25,8 @@ use Rattle.loop_syntax.specs.declared.numbered.Numbered.{Numbered}
 use Rattle.loop_syntax.specs.declared.refusal.LimitKind.TheVariants.{Constant}
 use Rattle.loop_syntax.specs.Numbered.{numbered}
 use Rattle.loop_syntax.specs.Scope.{Scope, empty, meaning_of, scope_after, use_of}
-use Rattle.loop_syntax.specs.NameRules.{new_fault, index_fault, data_fault, target_fault, atom_fault, term_fault, terms_fault, value_fault, line_fault, first_fault}
-use Rattle.loop_syntax.specs.Resolved.{array_in, term_in, value_in}
+use Rattle.loop_syntax.specs.NameRules.{new_fault, kept_fault, index_fault, data_fault, target_fault, atom_fault, term_fault, terms_fault, value_fault, line_fault, first_fault}
+use Rattle.loop_syntax.specs.Resolved.{array_in, local_in, term_in, value_in}
 use Rattle.loop_syntax.specs.Counts.{constants_step as named_step, constants, value_terms_step, value_terms, has_constants as line_has_constants, references, constant_limit, scope_limit, first_passed, is_within, targets}
 use Rattle.loop_syntax.specs.TextNest.{gathered, refusal, IsRead}
 use Rattle.loop_syntax.proofs.FewLaws.{Below, either_none, limits_first, limits_of}
@@ -103,6 +103,7 @@ said_terms s x = ap (map (term_in s)) (fold-roll-NamedExpr (List NamedTerm) valu
 terms_case : (s : Scope) (y : NamedExpr-F (TermsSo s)) → HasTerms s (roll-NamedExpr (map-NamedExpr (TermsSo s) NamedExpr (λ e. e.0) y))
 terms_case s (NamedExpr-F.Lit value) = expr_layer expr_terms_step s (NamedExpr-F.Lit value) ∙ sym (said_terms s (NamedExpr-F.Lit value))
 terms_case s (NamedExpr-F.Read array at) = expr_layer expr_terms_step s (NamedExpr-F.Read array at) ∙ sym (said_terms s (NamedExpr-F.Read array at))
+terms_case s (NamedExpr-F.Local name) = expr_layer expr_terms_step s (NamedExpr-F.Local name) ∙ sym (said_terms s (NamedExpr-F.Local name))
 terms_case s (NamedExpr-F.Op op left right) =
     let x : NamedExpr-F NamedExpr = NamedExpr-F.Op op left.0 right.0 in
     expr_layer expr_terms_step s x
@@ -146,6 +147,7 @@ line_small : (s : Scope) (n : ℕ) (l : Line) → line_has_constants l ≡ true 
 line_small s n (lines.Matrix name form) h = refl
 line_small s n (lines.Index name size) h = refl
 line_small s n (lines.Vector name size source) h = refl
+line_small s n (lines.Local name) h = refl
 line_small s n (lines.Prop prop) h = refl
 line_small s n (lines.Loop name) h = refl
 line_small s n (lines.For name lo hi) h = and_both (list_all has_constants (term_in s lo ∷ term_in s hi ∷ [])) true (small_in s (lo ∷ hi ∷ []) h) refl
@@ -153,6 +155,9 @@ line_small s n (lines.When rel left right) h = and_both (list_all has_constants 
 line_small s n (lines.Set array at value) h =
     let all = ap (λ (l : List Term). list_all has_constants (term_in s at ∷ l)) (terms_in s value) ∙ small_in s (at ∷ value_terms value) h in
     and_both (list_all has_constants (term_in s at ∷ expr_terms (value_in s value))) true all refl
+line_small s n (lines.Keep name value) h =
+    let all = ap (list_all has_constants) (terms_in s value) ∙ small_in s (value_terms value) h in
+    and_both (list_all has_constants (expr_terms (value_in s value))) true all refl
 line_small s n lines.End h = refl
 
 pub constants_are : (ls : List (List ℕ)) (nest : Nest) → IsRead ls nest → IsTrue (list_all has_constants (flat_map (λ l. line_terms l.form) (text_body (numbered ls))))
@@ -205,6 +210,8 @@ module _ (ds : List Decl) (s : Scope) (k : AreUses ds s) where
       let place = and_both (indexed ds (term_in s at)) true (indexed_in at both.1) refl in
       let own = and_both (is_data ds (array_in s array)) true (data_is ds (use_of s array) (k array) both.0) refl in
       (ap (list_all (indexed ds)) (expr_layer expr_terms_step s (NamedExpr-F.Read array at)) ∙ place, ap (list_all (is_data ds)) (expr_layer expr_arrays_step s (NamedExpr-F.Read array at)) ∙ own)
+  value_case (NamedExpr-F.Local name) e =
+      (ap (list_all (indexed ds)) (expr_layer expr_terms_step s (NamedExpr-F.Local name)), ap (list_all (is_data ds)) (expr_layer expr_arrays_step s (NamedExpr-F.Local name)))
   value_case (NamedExpr-F.Op op left right) e =
       let x : NamedExpr-F NamedExpr = NamedExpr-F.Op op left.0 right.0 in
       let both = either_none (value_fault s left.0) (value_fault s right.0) (fault_of_value s x e) in
@@ -229,6 +236,7 @@ module _ (ds : List Decl) (s : Scope) (k : AreUses ds s) where
   line_kinds n (lines.Matrix name form) e = refl
   line_kinds n (lines.Index name size) e = refl
   line_kinds n (lines.Vector name size source) e = refl
+  line_kinds n (lines.Local name) e = refl
   line_kinds n (lines.Prop prop) e = refl
   line_kinds n (lines.Loop name) e = refl
   line_kinds n (lines.For name lo hi) e =
@@ -242,6 +250,10 @@ module _ (ds : List Decl) (s : Scope) (k : AreUses ds s) where
       let all = and_both (indexed ds (term_in s at)) (list_all (indexed ds) (expr_terms (value_in s value))) (indexed_in at front.1) of_value.0 in
       let own = and_both (is_data ds (array_in s array)) true (target_is ds (use_of s array) (k array) front.0) refl in
       form_kinds n (loops_of s.blocks) (Sets (array_in s array) (term_in s at) (value_in s value)) all (all_both (is_data ds) (expr_arrays (value_in s value)) (array_in s array ∷ []) of_value.1 own)
+  line_kinds n (lines.Keep name value) e =
+      let both = either_none (kept_fault (meaning_of s name)) (value_fault s value) e in
+      let of_value = value_kinds value both.1 in
+      form_kinds n (loops_of s.blocks) (Keeps (local_in s name) (value_in s value)) of_value.0 of_value.1
   line_kinds n lines.End e = refl
 
 -- lines that break no rule, in a scope that the lines above left

@@ -20,7 +20,7 @@ use Rattle.loop_lines.specs.declared.tree.NamedExpr.TheOpen.{NamedExpr-F}
 use Rattle.loop_lines.specs.declared.tree.NamedExpr.TheViews.{roll-NamedExpr}
 use Rattle.loop_lines.specs.declared.tree.NamedExpr.TheFolds.{fold-roll-NamedExpr, map-NamedExpr}
 use Rattle.loop_syntax.specs.Scope.{Scope}
-use Rattle.loop_syntax.specs.Resolved.{array_in, variable_in, atom_step, term_step, term_in, value_step, value_in}
+use Rattle.loop_syntax.specs.Resolved.{array_in, variable_in, local_in, atom_step, term_step, term_in, value_step, value_in}
 
 -- ---- terms
 
@@ -113,12 +113,14 @@ module _ {A B : Type 0} (f : Atom-F A B → A) (g : Term-F A B → B) (s : Scope
 abbrev pub value_layer : {A : Type 0} → Scope → NamedExpr-F A → Expr-F A
 value_layer s (NamedExpr-F.Lit value) = Expr-F.Lit value
 value_layer s (NamedExpr-F.Read array at) = Expr-F.Read (array_in s array) (term_in s at)
+value_layer s (NamedExpr-F.Local name) = Expr-F.Local (local_in s name)
 value_layer s (NamedExpr-F.Op op left right) = Expr-F.Op op left right
 
 value_rolls : (s : Scope) (x : NamedExpr-F Expr) → value_step s x ≡ roll-Expr (value_layer s x)
 unfolding roll-Expr hole.roll
 value_rolls s (NamedExpr-F.Lit value) = refl
 value_rolls s (NamedExpr-F.Read array at) = refl
+value_rolls s (NamedExpr-F.Local name) = refl
 value_rolls s (NamedExpr-F.Op op left right) = refl
 
 module _ {A : Type 0} (f : Expr-F A → A) (s : Scope) where
@@ -129,6 +131,7 @@ module _ {A : Type 0} (f : Expr-F A → A) (s : Scope) where
   value_mapped : (x : NamedExpr-F NamedExpr) → map-Expr Expr A (fold-Expr A f) (value_layer s (map-NamedExpr NamedExpr Expr (value_in s) x)) ≡ value_layer s (map-NamedExpr NamedExpr A in_value x)
   value_mapped (NamedExpr-F.Lit value) = refl
   value_mapped (NamedExpr-F.Read array at) = refl
+  value_mapped (NamedExpr-F.Local name) = refl
   value_mapped (NamedExpr-F.Op op left right) = refl
 
   pub expr_layer : (x : NamedExpr-F NamedExpr) → in_value (roll-NamedExpr x) ≡ f (value_layer s (map-NamedExpr NamedExpr A in_value x))

@@ -3,6 +3,7 @@ use Rattle.std.proofs.Common.{◌≡◌, ℕ, zero, suc, ◌+◌, Bool, true, fa
 use Rattle.std.specs.List.{count_by, filter}
 use Rattle.std.proofs.lemmas.List.Sums.{length-filter}
 use Rattle.loop_core.specs.declared.decl.Decl.{Decl}
+use Rattle.loop_core.specs.declared.decl.LocalDecl.{LocalDecl}
 use Rattle.loop_core.specs.declared.nest.Nest.{Nest}
 use Rattle.loop_core.specs.IsNest.{is_matrix}
 use Rattle.loop_lines.specs.declared.line.Line.{Line}
@@ -13,12 +14,12 @@ use Rattle.loop_lines.proofs.TermLaws.{some_is}
 use Rattle.loop_syntax.specs.declared.numbered.Numbered.{Numbered}
 use Rattle.loop_syntax.specs.Numbered.{numbered}
 use Rattle.loop_syntax.specs.Scope.{Scope, empty, scope_behind, scope_after}
-use Rattle.loop_syntax.specs.Resolved.{declaration, outer}
+use Rattle.loop_syntax.specs.Resolved.{declaration, local, outer}
 use Rattle.loop_syntax.specs.Stages.{Stage, Above, Within, Behind, stage_within, stage_after, AreNested}
 use Rattle.loop_syntax.specs.TextNest.{IsRead}
 use Rattle.loop_syntax.proofs.StageLaws.{nested_next}
 use Rattle.loop_syntax.proofs.ReadLaws.{passes_all, fits}
-use Rattle.loop_laws.proofs.ShownNames.{decls_from}
+use Rattle.loop_laws.proofs.ShownNames.{decls_from, locals_from}
 use Rattle.loop_laws.proofs.ShownBody.{IsInside}
 use Rattle.loop_laws.proofs.BackFits.{LeadsBehind, leads_behind}
 use Rattle.loop_laws.proofs.NestNames.{outer_from}
@@ -29,6 +30,7 @@ use Rattle.loop_laws.proofs.NestNames.{outer_from}
 pub record Stays (s : Scope) (n : ℕ) (l : Line) (next : Stage) : Type 0 where
   pub inside : IsInside next
   pub decls : declaration n l ≡ []
+  pub locals : local n l ≡ []
   pub loops : outer n l ≡ []
   pub declared : (scope_behind s n l).declared ≡ s.declared
 
@@ -36,14 +38,16 @@ leads_inside : (here next : Stage) → IsInside here → Some here ≡ Some next
 leads_inside here next is e = subst IsInside (some_is here next e) is
 
 stays : (k : ℕ) (s : Scope) (n : ℕ) (l : Line) (next : Stage) → stage_within k l ≡ Some next → Stays s n l next
-stays k s n (lines.For name lo hi) next e = record { inside = leads_inside (Within (k + 1)) next tt e; decls = refl; loops = refl; declared = refl }
-stays k s n (lines.When rel left right) next e = record { inside = leads_inside (Within (k + 1)) next tt e; decls = refl; loops = refl; declared = refl }
-stays k s n (lines.Set array at value) next e = record { inside = leads_inside (Within k) next tt e; decls = refl; loops = refl; declared = refl }
-stays zero s n lines.End next e = record { inside = leads_inside Behind next tt e; decls = refl; loops = refl; declared = refl }
-stays (suc k) s n lines.End next e = record { inside = leads_inside (Within k) next tt e; decls = refl; loops = refl; declared = refl }
+stays k s n (lines.For name lo hi) next e = record { inside = leads_inside (Within (k + 1)) next tt e; decls = refl; locals = refl; loops = refl; declared = refl }
+stays k s n (lines.When rel left right) next e = record { inside = leads_inside (Within (k + 1)) next tt e; decls = refl; locals = refl; loops = refl; declared = refl }
+stays k s n (lines.Set array at value) next e = record { inside = leads_inside (Within k) next tt e; decls = refl; locals = refl; loops = refl; declared = refl }
+stays k s n (lines.Keep name value) next e = record { inside = leads_inside (Within k) next tt e; decls = refl; locals = refl; loops = refl; declared = refl }
+stays zero s n lines.End next e = record { inside = leads_inside Behind next tt e; decls = refl; locals = refl; loops = refl; declared = refl }
+stays (suc k) s n lines.End next e = record { inside = leads_inside (Within k) next tt e; decls = refl; locals = refl; loops = refl; declared = refl }
 stays k s n (lines.Matrix name form) next e = absurd cc
 stays k s n (lines.Index name size) next e = absurd cc
 stays k s n (lines.Vector name size source) next e = absurd cc
+stays k s n (lines.Local name) next e = absurd cc
 stays k s n (lines.Prop prop) next e = absurd cc
 stays k s n (lines.Loop name) next e = absurd cc
 
@@ -52,13 +56,23 @@ stays_inside Above s n l next is e = absurd is
 stays_inside (Within k) s n l next is e = stays k s n l next e
 stays_inside Behind s n l next is e = absurd cc
 
-pub nothing_inside : (stage : Stage) (s : Scope) (ls : List Numbered) → IsInside stage → AreNested stage ls → (decls_from s ls ≡ []) × (outer_from s ls ≡ [])
-nothing_inside stage s [] is h = (refl, refl)
+-- lines in the loop give nothing that stands above it
+pub record Nothing (s : Scope) (ls : List Numbered) : Type 0 where
+  pub decls : decls_from s ls ≡ []
+  pub locals : locals_from s ls ≡ []
+  pub loops : outer_from s ls ≡ []
+
+pub nothing_inside : (stage : Stage) (s : Scope) (ls : List Numbered) → IsInside stage → AreNested stage ls → Nothing s ls
+nothing_inside stage s [] is h = record { decls = refl; locals = refl; loops = refl }
 nothing_inside stage s (l ∷ ls) is h =
     let n = nested_next stage l ls h in
     let here = stays_inside stage s l.number l.line n.0 is n.1 in
     let more = nothing_inside n.0 (scope_after s l) ls here.inside n.2 in
-    (ap (λ (ds : List Decl). ds ++ decls_from (scope_after s l) ls) here.decls ∙ more.0, ap (λ (os : List (ℕ × List ℕ)). os ++ outer_from (scope_after s l) ls) here.loops ∙ more.1)
+    record {
+      decls = ap (λ (ds : List Decl). ds ++ decls_from (scope_after s l) ls) here.decls ∙ more.decls;
+      locals = ap (λ (own : List LocalDecl). own ++ locals_from (scope_after s l) ls) here.locals ∙ more.locals;
+      loops = ap (λ (os : List (ℕ × List ℕ)). os ++ outer_from (scope_after s l) ls) here.loops ∙ more.loops;
+    }
 
 -- ---- the matrix
 
@@ -81,13 +95,16 @@ heading false s n (lines.Index name size) ls more led nested = more false (scope
 heading true s n (lines.Index name size) ls more led nested = more true (scope_behind s n (lines.Index name size)) led nested
 heading false s n (lines.Vector name size source) ls more led nested = more false (scope_behind s n (lines.Vector name size source)) led nested
 heading true s n (lines.Vector name size source) ls more led nested = more true (scope_behind s n (lines.Vector name size source)) led nested
+heading false s n (lines.Local name) ls more led nested = more false (scope_behind s n (lines.Local name)) led nested
+heading true s n (lines.Local name) ls more led nested = more true (scope_behind s n (lines.Local name)) led nested
 heading false s n (lines.Prop prop) ls more led nested = more false s led nested
 heading true s n (lines.Prop prop) ls more led nested = more true s led nested
 heading false s n (lines.Loop name) ls more led nested = absurd cc
-heading true s n (lines.Loop name) ls more led nested = ap matrices (nothing_inside (Within 0) (scope_behind s n (lines.Loop name)) ls tt nested).0
+heading true s n (lines.Loop name) ls more led nested = ap matrices (nothing_inside (Within 0) (scope_behind s n (lines.Loop name)) ls tt nested).decls
 heading m s n (lines.For name lo hi) ls more led nested = absurd cc
 heading m s n (lines.When rel left right) ls more led nested = absurd cc
 heading m s n (lines.Set array at value) ls more led nested = absurd cc
+heading m s n (lines.Keep name value) ls more led nested = absurd cc
 heading m s n lines.End ls more led nested = absurd cc
 
 to_matrix : (ls : List Numbered) → ToMatrix ls

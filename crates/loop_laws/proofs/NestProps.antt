@@ -143,10 +143,12 @@ line_props ds s n (lines.Prop prop) k e fine = and_both (names_arrays ds (prop_i
 line_props ds s n (lines.Matrix name form) k e fine = refl
 line_props ds s n (lines.Index name size) k e fine = refl
 line_props ds s n (lines.Vector name size source) k e fine = refl
+line_props ds s n (lines.Local name) k e fine = refl
 line_props ds s n (lines.Loop name) k e fine = refl
 line_props ds s n (lines.For name lo hi) k e fine = refl
 line_props ds s n (lines.When rel left right) k e fine = refl
 line_props ds s n (lines.Set array at value) k e fine = refl
+line_props ds s n (lines.Keep name value) k e fine = refl
 line_props ds s n lines.End k e fine = refl
 
 abbrev Readable : List Decl → Scope → List Numbered → Type 0
@@ -187,10 +189,12 @@ line_small s n (lines.Prop prop) h = and_both (list_all has_constants (bounds_of
 line_small s n (lines.Matrix name form) h = refl
 line_small s n (lines.Index name size) h = refl
 line_small s n (lines.Vector name size source) h = refl
+line_small s n (lines.Local name) h = refl
 line_small s n (lines.Loop name) h = refl
 line_small s n (lines.For name lo hi) h = refl
 line_small s n (lines.When rel left right) h = refl
 line_small s n (lines.Set array at value) h = refl
+line_small s n (lines.Keep name value) h = refl
 line_small s n lines.End h = refl
 
 pub bounds_are : (ls : List (List ℕ)) (nest : Nest) → IsRead ls nest → IsTrue (list_all has_constants (flat_map (λ p. bounds_of p.kind) nest.props))

@@ -31,7 +31,7 @@ use Rattle.loop_syntax.specs.declared.scope.Meaning.{Meaning}
 use Rattle.loop_syntax.specs.declared.scope.Meaning.TheVariants as meanings
 use Rattle.loop_syntax.specs.Numbered.{numbered}
 use Rattle.loop_syntax.specs.Scope.{Scope, empty, variables, found, meaning_of, parts_from, scope_behind, scope_after, use_of}
-use Rattle.loop_syntax.specs.NameRules.{new_fault, variable_fault, index_fault, data_fault, target_fault, atom_fault, term_fault, terms_fault, value_fault, line_fault, first_fault}
+use Rattle.loop_syntax.specs.NameRules.{new_fault, variable_fault, kept_fault, index_fault, data_fault, target_fault, atom_fault, term_fault, terms_fault, value_fault, line_fault, first_fault}
 use Rattle.loop_syntax.specs.Resolved.{loop_line, variable_in, term_in, value_in}
 use Rattle.loop_syntax.specs.TextNest.{IsRead}
 use Rattle.loop_lines.proofs.Bools.{and_both}
@@ -117,6 +117,7 @@ module _ (s : Scope) (apart : AreNoVariables s.declared) where
   value_case (NamedExpr-F.Read array at) e =
       let both = either_none (data_fault (use_of s array)) (term_fault s at) (fault_of_value s (NamedExpr-F.Read array at) e) in
       ap (λ (ts : List Term). are_round (all_vars ts)) (expr_layer expr_terms_step s (NamedExpr-F.Read array at)) ∙ both_round (term_vars (term_in s at)) [] (term_round at both.1) refl
+  value_case (NamedExpr-F.Local name) e = ap (λ (ts : List Term). are_round (all_vars ts)) (expr_layer expr_terms_step s (NamedExpr-F.Local name))
   value_case (NamedExpr-F.Op op l r) e =
       let x : NamedExpr-F NamedExpr = NamedExpr-F.Op op l.0 r.0 in
       let both = either_none (value_fault s l.0) (value_fault s r.0) (fault_of_value s x e) in
@@ -141,6 +142,8 @@ one_known s n (lines.Set array at value) rest apart fine h =
     let both = either_none (either (target_fault (use_of s array)) (term_fault s at)) (value_fault s value) fine in
     let place = term_round s apart at (either_none (target_fault (use_of s array)) (term_fault s at) both.0).1 in
     rw (both_round s apart (term_vars (term_in s at)) (all_vars s apart (expr_terms (value_in s value))) place (value_round s apart value both.1)) h
+one_known s n (lines.Keep name value) rest apart fine h =
+    rw (value_round s apart value (either_none (kept_fault (meaning_of s name)) (value_fault s value) fine).1) h
 one_known s n _ rest apart fine h = h
 
 -- declared names stand for no variables
@@ -148,6 +151,7 @@ apart_behind : (s : Scope) (n : ℕ) (l : Line) → AreNoVariables s.declared �
 apart_behind s n (lines.Matrix name form) h = no_variables_both s.declared (record { name = name; meaning = meanings.Matrix form (parts_from s.arrays) } ∷ []) h (tt, tt)
 apart_behind s n (lines.Index name size) h = no_variables_both s.declared (record { name = name; meaning = meanings.Indexes size s.arrays } ∷ []) h (tt, tt)
 apart_behind s n (lines.Vector name size source) h = no_variables_both s.declared (record { name = name; meaning = meanings.Holds size s.arrays } ∷ []) h (tt, tt)
+apart_behind s n (lines.Local name) h = no_variables_both s.declared (record { name = name; meaning = meanings.Local s.locals } ∷ []) h (tt, tt)
 apart_behind s n _ h = h
 
 all_known : (s : Scope) (ls : List Numbered) → first_fault s ls ≡ None → AreNoVariables s.declared → are_known (body_from s ls) ≡ true

@@ -38,6 +38,7 @@ IsMeant ds (meanings.Matrix form parts) = IsAt ds parts.ptr NPlusOne Places × I
 IsMeant ds (meanings.Indexes size number) = IsAt ds number size Places
 IsMeant ds (meanings.Holds size number) = IsAt ds number size Data
 IsMeant ds (meanings.Variable line) = Unit {0}
+IsMeant ds (meanings.Local number) = Unit {0}
 
 abbrev AreMeant : List Decl → List Known → Type 0
 AreMeant ds [] = Unit {0}
@@ -79,6 +80,7 @@ own_used ds (Some (meanings.Matrix form parts)) h = tt
 own_used ds (Some (meanings.Indexes size number)) h = h
 own_used ds (Some (meanings.Holds size number)) h = h
 own_used ds (Some (meanings.Variable line)) h = tt
+own_used ds (Some (meanings.Local number)) h = tt
 
 part_used : (ds : List Decl) (form : Form) (parts : Parts) (part : List ℕ) → IsMeant ds (meanings.Matrix form parts) → IsUse ds (part_use form parts part)
 part_used ds form parts part h =
@@ -97,6 +99,7 @@ dotted_used ds part (Some (meanings.Matrix form parts)) h = part_used ds form pa
 dotted_used ds part (Some (meanings.Indexes size number)) h = tt
 dotted_used ds part (Some (meanings.Holds size number)) h = tt
 dotted_used ds part (Some (meanings.Variable line)) h = tt
+dotted_used ds part (Some (meanings.Local number)) h = tt
 
 -- ---- scopes
 
@@ -156,6 +159,9 @@ one_behind ds rest s name meaning size kind e f h is =
     let left = behind s.arrays (s.arrays + 1) (sizes ds) size (sizes rest) (omega arith) e in
     (left, behind s.arrays (s.arrays + 1) (kinds ds) kind (kinds rest) (omega arith) f, meant_more ds s.declared name meaning h (is at))
 
+none_more : {X : Type 0} (n : ℕ) (xs : List X) → drop (n + 0) xs ≡ drop n xs
+none_more n xs = ap (λ (k : ℕ). drop k xs) (omega arith)
+
 pub declares_behind : (ds : List Decl) (s : Scope) (n : ℕ) (l : Line) (ls : List Numbered) → Declares ds s (record { number = n; line = l } ∷ ls) → Declares ds (scope_behind s n l) ls
 declares_behind ds s n (lines.Matrix name form) ls h =
     let rest = decls_from (scope_behind s n (lines.Matrix name form)) ls in
@@ -171,11 +177,14 @@ declares_behind ds s n (lines.Vector name size source) ls h =
     let rest = decls_from (scope_behind s n (lines.Vector name size source)) ls in
     let d = one_behind ds rest s name (meanings.Holds size s.arrays) size Data h.sizes_left h.kinds_left h.meant (λ at. at) in
     record { sizes_left = d.0; kinds_left = d.1; meant = d.2 }
+declares_behind ds s n (lines.Local name) ls h =
+    record { sizes_left = none_more s.arrays (sizes ds) ∙ h.sizes_left; kinds_left = none_more s.arrays (kinds ds) ∙ h.kinds_left; meant = meant_more ds s.declared name (meanings.Local s.locals) h.meant tt }
 declares_behind ds s n (lines.Prop prop) ls h = record { sizes_left = h.sizes_left; kinds_left = h.kinds_left; meant = h.meant }
 declares_behind ds s n (lines.Loop name) ls h = record { sizes_left = h.sizes_left; kinds_left = h.kinds_left; meant = h.meant }
 declares_behind ds s n (lines.For name lo hi) ls h = record { sizes_left = h.sizes_left; kinds_left = h.kinds_left; meant = h.meant }
 declares_behind ds s n (lines.When rel left right) ls h = record { sizes_left = h.sizes_left; kinds_left = h.kinds_left; meant = h.meant }
 declares_behind ds s n (lines.Set array at value) ls h = record { sizes_left = h.sizes_left; kinds_left = h.kinds_left; meant = h.meant }
+declares_behind ds s n (lines.Keep name value) ls h = record { sizes_left = h.sizes_left; kinds_left = h.kinds_left; meant = h.meant }
 declares_behind ds s n lines.End ls h = record { sizes_left = h.sizes_left; kinds_left = h.kinds_left; meant = h.meant }
 
 pub declares_first : (ls : List Numbered) → Declares (decls_from empty ls) empty ls

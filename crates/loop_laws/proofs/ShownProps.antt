@@ -1,4 +1,4 @@
--- The lines of declarations and properties show what the lines of the text say.
+-- The lines of declarations, locals and properties show what the lines of the text say.
 use Rattle.std.proofs.Common.{◌≡◌, ℕ, true, ◌&&◌, codes, List, [], ◌++◌, None, refl, sym, ap, ◌∙◌, append_assoc}
 use Rattle.loop_core.specs.declared.decl.Decl.{Decl}
 use Rattle.loop_core.specs.declared.decl.Form.{Form}
@@ -8,6 +8,7 @@ use Rattle.loop_core.specs.declared.decl.Size.TheVariants as sizes
 use Rattle.loop_core.specs.declared.decl.Source.{Source}
 use Rattle.loop_core.specs.declared.decl.Source.TheVariants as sources
 use Rattle.loop_core.specs.declared.decl.DeclKind.TheVariants as kinds
+use Rattle.loop_core.specs.declared.decl.LocalDecl.{LocalDecl}
 use Rattle.loop_lines.specs.declared.line.Line.TheVariants as lines
 use Rattle.loop_lines.specs.declared.line.NamedProp.{NamedProp}
 use Rattle.loop_lines.specs.declared.line.NamedProp.TheVariants as props
@@ -22,7 +23,7 @@ use Rattle.loop_syntax.specs.NameRules.{index_fault, sized_fault, alike_fault, b
 use Rattle.loop_syntax.specs.Resolved.{array_in, term_in, prop_in}
 use Rattle.loop_print.specs.PrintNames.{Block, array_name}
 use Rattle.loop_print.specs.PrintTerms.{term_text}
-use Rattle.loop_print.specs.PrintHeads.{size_text, source_text, decl_text, prop_text}
+use Rattle.loop_print.specs.PrintHeads.{size_text, source_text, decl_text, prop_text, local_line}
 use Rattle.loop_syntax.proofs.FewLaws.{either_none}
 use Rattle.loop_lines.proofs.Bools.{and_left, and_right}
 use Rattle.loop_laws.proofs.ShownNames.{IsArray, Knows}
@@ -52,6 +53,9 @@ index_shows name size = rw (size_shows size) refl
 pub vector_shows : (name : List ℕ) (size : Size) (source : Source) → decl_text name (kinds.Vector size source) ≡ shown_line (lines.Vector name size source) ++ newline
 vector_shows name size source = rw (size_shows size, source_shows source) refl
 
+pub local_shows : (l : LocalDecl) → (local_line l).text ≡ shown_line (lines.Local l.name) ++ newline
+local_shows l = refl
+
 -- ---- properties
 
 sized_array : (size : Size) (u : ArrayUse) → sized_fault size u ≡ None → IsArray u
@@ -66,7 +70,7 @@ alike_array uses.Other v f e = absurd cc
 alike_array (uses.Indexes size number) v f e = sized_array size v e
 alike_array (uses.Holds size number) v f e = absurd cc
 
-module _ (decls : List Decl) (s : Scope) (k : Knows decls s) where
+module _ (decls : List Decl) (locals : List LocalDecl) (s : Scope) (k : Knows decls locals s) where
   one : (array : ArrayName) → index_fault (use_of s array) ≡ None → array_name decls (array_in s array) ≡ shown_array array
   one array e = k.arrays array (index_array (use_of s array) e)
 
@@ -74,7 +78,7 @@ module _ (decls : List Decl) (s : Scope) (k : Knows decls s) where
   sized size array e = k.arrays array (sized_array size (use_of s array) e)
 
   bound_shows : (t : NamedTerm) → s.blocks ≡ [] → is_showable_bound t ≡ true → term_text decls [] (term_in s t) ≡ shown_term t
-  bound_shows t outside e = ap (λ (bs : List Block). term_text decls bs (term_in s t)) (sym outside) ∙ term_shows decls s k t (bound_plain s t e)
+  bound_shows t outside e = ap (λ (bs : List Block). term_text decls bs (term_in s t)) (sym outside) ∙ term_shows decls locals s k t (bound_plain s t e)
 
   range_shows : (f : ArrayName) (lo hi : NamedTerm) → s.blocks ≡ [] → is_showable_prop (props.Range f lo hi) ≡ true → prop_fault s (props.Range f lo hi) ≡ None
       → prop_text decls (prop_in s (props.Range f lo hi)) ≡ shown_prop (props.Range f lo hi) ++ newline

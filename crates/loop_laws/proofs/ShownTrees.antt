@@ -3,6 +3,7 @@ use Rattle.std.proofs.Common.{◌≡◌, ℕ, ℤ, Bool, true, false, codes, Lis
 use denote.Hole.Carrier as hole
 use Rattle.wave_base.specs.declared.types.ArrayId.{ArrayId}
 use Rattle.loop_core.specs.declared.decl.Decl.{Decl}
+use Rattle.loop_core.specs.declared.decl.LocalDecl.{LocalDecl}
 use Rattle.loop_core.specs.declared.nest.VarId.{VarId}
 use Rattle.loop_core.specs.declared.nest.Op.{Op}
 use Rattle.loop_core.specs.declared.nest.Op.TheVariants as ops
@@ -35,9 +36,9 @@ use Rattle.loop_syntax.specs.declared.scope.Meaning.TheVariants as meanings
 use Rattle.loop_syntax.specs.declared.scope.ArrayUse.{ArrayUse}
 use Rattle.loop_syntax.specs.declared.scope.ArrayUse.TheVariants as uses
 use Rattle.loop_syntax.specs.Scope.{Scope, meaning_of, use_of}
-use Rattle.loop_syntax.specs.NameRules.{variable_fault, index_fault, data_fault, atom_fault, term_fault, value_fault, value_step as value_fault_step}
-use Rattle.loop_syntax.specs.Resolved.{loop_line, array_in, variable_in, atom_step as atom_in_step, term_step as term_in_step, term_in, value_step as value_in_step, value_in}
-use Rattle.loop_print.specs.PrintNames.{variable_name}
+use Rattle.loop_syntax.specs.NameRules.{variable_fault, local_fault, kept_fault, index_fault, data_fault, atom_fault, term_fault, value_fault, value_step as value_fault_step}
+use Rattle.loop_syntax.specs.Resolved.{loop_line, local_number, array_in, variable_in, local_in, atom_step as atom_in_step, term_step as term_in_step, term_in, value_step as value_in_step, value_in}
+use Rattle.loop_print.specs.PrintNames.{variable_name, local_name}
 use Rattle.loop_print.specs.PrintTerms.{offset_text, entry_text, atom_step, term_step, term_text, atom_text}
 use Rattle.loop_print.specs.PrintExprs.{expr_step, expr_text}
 use Rattle.loop_syntax.proofs.FewLaws.{either_none}
@@ -74,6 +75,10 @@ rolled_read : (array : ArrayId) (t : Term) → roll-Expr (Expr-F.Read array t) �
 unfolding roll-Expr hole.roll
 rolled_read array t = refl
 
+rolled_local : (local : ℕ) → roll-Expr (Expr-F.Local local) ≡ exprs.Local local
+unfolding roll-Expr hole.roll
+rolled_local local = refl
+
 rolled_op : (op : Op) (l r : Expr) → roll-Expr (Expr-F.Op op l r) ≡ exprs.Op op l r
 unfolding roll-Expr hole.roll
 rolled_op op l r = refl
@@ -98,6 +103,24 @@ variable_is (Some (meanings.Matrix form parts)) e = absurd cc
 variable_is (Some (meanings.Indexes size number)) e = absurd cc
 variable_is (Some (meanings.Holds size number)) e = absurd cc
 variable_is (Some (meanings.Variable line)) e = refl
+variable_is (Some (meanings.Local number)) e = absurd cc
+
+pub local_is : (o : Option Meaning) → local_fault o ≡ None → o ≡ Some (meanings.Local (local_number o))
+local_is None e = absurd cc
+local_is (Some (meanings.Matrix form parts)) e = absurd cc
+local_is (Some (meanings.Indexes size number)) e = absurd cc
+local_is (Some (meanings.Holds size number)) e = absurd cc
+local_is (Some (meanings.Variable line)) e = absurd cc
+local_is (Some (meanings.Local number)) e = refl
+
+-- where a name may be kept it is a local's
+pub kept_local : (o : Option Meaning) → kept_fault o ≡ None → local_fault o ≡ None
+kept_local None e = absurd cc
+kept_local (Some (meanings.Matrix form parts)) e = absurd cc
+kept_local (Some (meanings.Indexes size number)) e = absurd cc
+kept_local (Some (meanings.Holds size number)) e = absurd cc
+kept_local (Some (meanings.Variable line)) e = absurd cc
+kept_local (Some (meanings.Local number)) e = refl
 
 abbrev atom_in : Scope → NamedAtom → Atom
 atom_in s = fold-NamedAtom Atom Term (atom_in_step s) term_in_step
@@ -114,7 +137,7 @@ fault_is s x e = sym (fold-roll-NamedAtom (Option NameKind) (Option NameKind) (a
 pub fault_of_value : (s : Scope) (x : NamedExpr-F NamedExpr) → value_fault s (roll-NamedExpr x) ≡ None → value_fault_step s (map-NamedExpr NamedExpr (Option NameKind) (value_fault s) x) ≡ None
 fault_of_value s x e = sym (fold-roll-NamedExpr (Option NameKind) (value_fault_step s) x) ∙ e
 
-module _ (decls : List Decl) (s : Scope) (k : Knows decls s) where
+module _ (decls : List Decl) (locals : List LocalDecl) (s : Scope) (k : Knows decls locals s) where
   -- from one layer of an atom to what it is and to its text
   shows : (x : NamedAtom-F NamedAtom NamedTerm) (y : Atom-F Atom Term) (plus : ℤ) → atom_in_step s (map-NamedAtom NamedAtom NamedTerm Atom Term (atom_in s) (term_in s) x) ≡ roll-Atom y
       → atom_text decls s.blocks (roll-Atom y) plus ≡ shown_atom (roll-NamedAtom x) plus → atom_text decls s.blocks (atom_in s (roll-NamedAtom x)) plus ≡ shown_atom (roll-NamedAtom x) plus
@@ -132,6 +155,9 @@ module _ (decls : List Decl) (s : Scope) (k : Knows decls s) where
 
   variable_shows : (name : List ℕ) → variable_fault (meaning_of s name) ≡ None → variable_name s.blocks (variable_in s name).line ≡ name
   variable_shows name e = k.variables name (loop_line (meaning_of s name)) (variable_is (meaning_of s name) e)
+
+  pub local_shows : (name : List ℕ) → local_fault (meaning_of s name) ≡ None → local_name locals (local_in s name) ≡ name
+  local_shows name e = k.own name (local_number (meaning_of s name)) (local_is (meaning_of s name) e)
 
   abbrev AtomShows : NamedAtom → Type 0
   AtomShows a = fault_in s a ≡ None → (plus : ℤ) → atom_text decls s.blocks (atom_in s a) plus ≡ shown_atom a plus
@@ -178,24 +204,26 @@ module _ (decls : List Decl) (s : Scope) (k : Knows decls s) where
   -- ---- expressions
 
   abbrev ValueShows : NamedExpr → Type 0
-  ValueShows v = value_fault s v ≡ None → (least : ℕ) → expr_text decls s.blocks (value_in s v) least ≡ shown_value v least
+  ValueShows v = value_fault s v ≡ None → (least : ℕ) → expr_text decls locals s.blocks (value_in s v) least ≡ shown_value v least
 
   abbrev ShowsValue : Type 0
   ShowsValue = (v : NamedExpr) × ValueShows v
 
   value_is : (x : NamedExpr-F NamedExpr) (y : Expr-F Expr) (least : ℕ) → value_in_step s (map-NamedExpr NamedExpr Expr (value_in s) x) ≡ roll-Expr y
-      → expr_step decls s.blocks (map-Expr Expr (ℕ → List ℕ) (expr_text decls s.blocks) y) least ≡ shown_value_step (map-NamedExpr NamedExpr (ℕ → List ℕ) shown_value x) least
-      → expr_text decls s.blocks (value_in s (roll-NamedExpr x)) least ≡ shown_value (roll-NamedExpr x) least
+      → expr_step decls locals s.blocks (map-Expr Expr (ℕ → List ℕ) (expr_text decls locals s.blocks) y) least ≡ shown_value_step (map-NamedExpr NamedExpr (ℕ → List ℕ) shown_value x) least
+      → expr_text decls locals s.blocks (value_in s (roll-NamedExpr x)) least ≡ shown_value (roll-NamedExpr x) least
   value_is x y least is e =
-      ap (λ (v : Expr). expr_text decls s.blocks v least) (fold-roll-NamedExpr Expr (value_in_step s) x ∙ is)
-      ∙ ap (λ (f : ℕ → List ℕ). f least) (fold-roll-Expr (ℕ → List ℕ) (expr_step decls s.blocks) y) ∙ e
+      ap (λ (v : Expr). expr_text decls locals s.blocks v least) (fold-roll-NamedExpr Expr (value_in_step s) x ∙ is)
+      ∙ ap (λ (f : ℕ → List ℕ). f least) (fold-roll-Expr (ℕ → List ℕ) (expr_step decls locals s.blocks) y) ∙ e
       ∙ sym (ap (λ (f : ℕ → List ℕ). f least) (fold-roll-NamedExpr (ℕ → List ℕ) shown_value_step x))
 
-  op_shows : (op : Op) (a b c d : ℕ → List ℕ) (least : ℕ) → ((n : ℕ) → a n ≡ c n) → ((n : ℕ) → b n ≡ d n) → expr_step decls s.blocks (Expr-F.Op op a b) least ≡ shown_value_step (NamedExpr-F.Op op c d) least
+  op_shows : (op : Op) (a b c d : ℕ → List ℕ) (least : ℕ) → ((n : ℕ) → a n ≡ c n) → ((n : ℕ) → b n ≡ d n) → expr_step decls locals s.blocks (Expr-F.Op op a b) least ≡ shown_value_step (NamedExpr-F.Op op c d) least
   op_shows ops.Add a b c d least e f = rw (e 0, f 1) refl
   op_shows ops.Sub a b c d least e f = rw (e 0, f 1) refl
   op_shows ops.Mul a b c d least e f = rw (e 1, f 2) refl
   op_shows ops.Quot a b c d least e f = rw (e 1, f 2) refl
+  op_shows ops.Min a b c d least e f = rw (e 0, f 0) refl
+  op_shows ops.Max a b c d least e f = rw (e 0, f 0) refl
 
   value_case : (y : NamedExpr-F ShowsValue) → ValueShows (roll-NamedExpr (map-NamedExpr ShowsValue NamedExpr (λ e. e.0) y))
   value_case (NamedExpr-F.Lit z) e least = value_is (NamedExpr-F.Lit z) (Expr-F.Lit z) least (sym (rolled_literal z)) refl
@@ -203,10 +231,12 @@ module _ (decls : List Decl) (s : Scope) (k : Knows decls s) where
       let both = either_none (data_fault (use_of s array)) (term_fault s at) (fault_of_value s (NamedExpr-F.Read array at) e) in
       value_is (NamedExpr-F.Read array at) (Expr-F.Read (array_in s array) (term_in s at)) least (sym (rolled_read (array_in s array) (term_in s at)))
       (entry_is array (term_text decls s.blocks (term_in s at)) (shown_term at) (data_array (use_of s array) both.0) (term_shows at both.1))
+  value_case (NamedExpr-F.Local name) e least =
+      value_is (NamedExpr-F.Local name) (Expr-F.Local (local_in s name)) least (sym (rolled_local (local_in s name))) (local_shows name (fault_of_value s (NamedExpr-F.Local name) e))
   value_case (NamedExpr-F.Op op l r) e least =
       let both = either_none (value_fault s l.0) (value_fault s r.0) (fault_of_value s (NamedExpr-F.Op op l.0 r.0) e) in
       value_is (NamedExpr-F.Op op l.0 r.0) (Expr-F.Op op (value_in s l.0) (value_in s r.0)) least (sym (rolled_op op (value_in s l.0) (value_in s r.0)))
-      (op_shows op (expr_text decls s.blocks (value_in s l.0)) (expr_text decls s.blocks (value_in s r.0)) (shown_value l.0) (shown_value r.0) least (l.1 both.0) (r.1 both.1))
+      (op_shows op (expr_text decls locals s.blocks (value_in s l.0)) (expr_text decls locals s.blocks (value_in s r.0)) (shown_value l.0) (shown_value r.0) least (l.1 both.0) (r.1 both.1))
 
   pub value_shows : (v : NamedExpr) → ValueShows v
   value_shows = ind-NamedExpr ValueShows (λ x y is. subst (λ z. ValueShows (roll-NamedExpr z)) is (value_case y))

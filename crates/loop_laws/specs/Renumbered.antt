@@ -1,6 +1,7 @@
 -- A nest whose lines have other numbers.
 use Rattle.std.specs.Prelude.{ℕ, map}
 use Rattle.loop_core.specs.declared.decl.Decl.{Decl}
+use Rattle.loop_core.specs.declared.decl.LocalDecl.{LocalDecl}
 use Rattle.loop_core.specs.declared.decl.PropDecl.{PropDecl}
 use Rattle.loop_core.specs.declared.decl.PropKind.{PropKind}
 use Rattle.loop_core.specs.declared.decl.PropKind.TheVariants.{Range}
@@ -40,6 +41,7 @@ renumbered_term f = fold-Term Atom Term (atom_step f) term_step
 abbrev pub value_step : (ℕ → ℕ) → Expr-F Expr → Expr
 value_step f (Expr-F.Lit value) = exprs.Lit value
 value_step f (Expr-F.Read array at) = exprs.Read array (renumbered_term f at)
+value_step f (Expr-F.Local local) = exprs.Local local
 value_step f (Expr-F.Op op left right) = exprs.Op op left right
 
 abbrev pub renumbered_value : (ℕ → ℕ) → Expr → Expr
@@ -49,12 +51,16 @@ abbrev pub item_step : (ℕ → ℕ) → Item-F Item → Item
 item_step f (Item-F.For line name lo hi body) = items.For (f line) name (renumbered_term f lo) (renumbered_term f hi) body
 item_step f (Item-F.When line rel left right body) = items.When (f line) rel (renumbered_term f left) (renumbered_term f right) body
 item_step f (Item-F.Set line array at value) = items.Set (f line) array (renumbered_term f at) (renumbered_value f value)
+item_step f (Item-F.Keep line local value) = items.Keep (f line) local (renumbered_value f value)
 
 abbrev pub renumbered_item : (ℕ → ℕ) → Item → Item
 renumbered_item f = fold-Item Item (item_step f)
 
 abbrev pub renumbered_decl : (ℕ → ℕ) → Decl → Decl
 renumbered_decl f d = record { line = f d.line; name = d.name; kind = d.kind }
+
+abbrev pub renumbered_local : (ℕ → ℕ) → LocalDecl → LocalDecl
+renumbered_local f l = record { line = f l.line; name = l.name }
 
 -- only the bounds of a range are terms
 abbrev pub renumbered_kind : (ℕ → ℕ) → PropKind → PropKind
@@ -69,6 +75,7 @@ abbrev pub renumbered : (ℕ → ℕ) → Nest → Nest
 renumbered f nest = record {
   decls = map (renumbered_decl f) nest.decls;
   props = map (renumbered_prop f) nest.props;
+  locals = map (renumbered_local f) nest.locals;
   line = f nest.line;
   name = nest.name;
   body = map (renumbered_item f) nest.body;

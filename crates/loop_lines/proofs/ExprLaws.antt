@@ -5,16 +5,16 @@ use Rattle.loop_core.specs.declared.nest.Op.{Op}
 use Rattle.loop_core.specs.declared.nest.Op.TheVariants as ops
 use Rattle.loop_lines.specs.declared.tree.NamedExpr.{NamedExpr}
 use Rattle.loop_lines.specs.declared.tree.NamedExpr.TheVariants as exprs
+use Rattle.loop_lines.specs.declared.token.Keyword.{Keyword}
+use Rattle.loop_lines.specs.declared.token.Keyword.TheVariants as keys
 use Rattle.loop_lines.specs.declared.token.Token.{Token}
 use Rattle.loop_lines.specs.declared.token.Token.TheVariants as tokens
 use Rattle.loop_lines.specs.declared.tree.ArrayName.{ArrayName}
 use Rattle.loop_lines.specs.declared.tree.ArrayName.TheVariants as arrays
 use Rattle.loop_lines.specs.Grammar.{Numeral, Written, numeral, shift, array, term, meaning}
 use Rattle.loop_lines.specs.Exprs.{IsExpr, Factor, Product, Sum, factor, product, sum, factor_of, product_of, sum_of}
-use Rattle.std.specs.Prelude.{Result, Ok, Err, IfOk}
-use Rattle.loop_lines.specs.declared.refusal.LineRefusal.{LineRefusal}
-use Rattle.loop_lines.specs.Reading.{◌>>=◌, Gives, close_at, term_at}
-use Rattle.loop_lines.specs.ExprReading.{all_read, element_at, right_at, factor_at, product_at, factors_at, sum_at, products_at}
+use Rattle.loop_lines.specs.Reading.{◌>>=◌, close_at, term_at}
+use Rattle.loop_lines.specs.ExprReading.{all_read, element_at, right_at, named_at, left_at, comma_at, factor_at, both_at, product_at, factors_at, sum_at, products_at}
 use Rattle.loop_lines.proofs.TermLaws.{Wrote, bind_some, some_is, close_sound, term_sound, term_again, height}
 
 -- an expression that was read grows by what stands after it
@@ -33,6 +33,20 @@ element_sound k f (tokens.Open ∷ ts) x e =
     subst (Wrote factor factor_of (array f ∷ tokens.Open ∷ ts)) (some_is _ x c.2)
     (record { written = Factor.Element f t.written; tokens = ap (λ (l : List Token). array f ∷ tokens.Open ∷ l) inside; means = ap (exprs.Read f) t.means })
 element_sound k f (_ ∷ ts) x e = absurd cc
+
+named_sound : (k : ℕ) (name : List ℕ) (ts : List Token) (x : NamedExpr × List Token) → named_at k name ts ≡ Some x → Wrote factor factor_of (tokens.Name name ∷ ts) x
+named_sound k name (tokens.Open ∷ ts) x e = element_sound k (arrays.Own name) (tokens.Open ∷ ts) x e
+named_sound k name ts x e = subst (Wrote factor factor_of (tokens.Name name ∷ ts)) (some_is _ x e) (record { written = Factor.Local name; tokens = refl; means = refl })
+
+left_sound : (ts rest : List Token) → left_at ts ≡ Some rest → ts ≡ tokens.Left ∷ rest
+left_sound [] rest e = absurd cc
+left_sound (tokens.Left ∷ ts) rest e = ap (λ (l : List Token). tokens.Left ∷ l) (some_is _ rest e)
+left_sound (_ ∷ ts) rest e = absurd cc
+
+comma_sound : (ts rest : List Token) → comma_at ts ≡ Some rest → ts ≡ tokens.Comma ∷ rest
+comma_sound [] rest e = absurd cc
+comma_sound (tokens.Comma ∷ ts) rest e = ap (λ (l : List Token). tokens.Comma ∷ l) (some_is _ rest e)
+comma_sound (_ ∷ ts) rest e = absurd cc
 
 right_sound : (e : NamedExpr) (ts : List Token) (x : NamedExpr × List Token) → right_at e ts ≡ Some x → (ts ≡ tokens.Right ∷ x.1) × (e ≡ x.0)
 right_sound e [] x h = absurd cc
@@ -70,6 +84,26 @@ stays_sum w e ts x m h = subst (Grows sum sum_of (sum w) ts) (some_is _ x h) (re
 joined : (op : Op) (a b c d : NamedExpr) → a ≡ b → c ≡ d → exprs.Op op a c ≡ exprs.Op op b d
 joined op a b c d e f = rw (e, f) refl
 
+-- two sums in parentheses, a comma between them
+abbrev both_tokens : Sum → Sum → List Token
+both_tokens s t = tokens.Left ∷ (sum s ++ tokens.Comma ∷ (sum t ++ tokens.Right ∷ []))
+
+both_read : (s t : Sum) (ts first second third fourth rest : List Token)
+    → ts ≡ tokens.Left ∷ first → first ≡ sum s ++ second → second ≡ tokens.Comma ∷ third → third ≡ sum t ++ fourth → fourth ≡ tokens.Right ∷ rest → ts ≡ both_tokens s t ++ rest
+both_read s t ts first second third fourth rest a b c d e =
+    let inner : third ≡ (sum t ++ tokens.Right ∷ []) ++ rest = d ∙ ap (λ (l : List Token). sum t ++ l) e ∙ sym (append_assoc (sum t) (tokens.Right ∷ []) rest) in
+    let outer : first ≡ (sum s ++ tokens.Comma ∷ (sum t ++ tokens.Right ∷ [])) ++ rest = b ∙ ap (λ (l : List Token). sum s ++ l) (c ∙ ap (λ (l : List Token). tokens.Comma ∷ l) inner) ∙ sym (append_assoc (sum s) (tokens.Comma ∷ (sum t ++ tokens.Right ∷ [])) rest) in
+    a ∙ ap (λ (l : List Token). tokens.Left ∷ l) outer
+
+both_wrote : (op : Op) (key : Keyword) (make : Sum → Sum → Factor) (s t : Sum) (ts : List Token) (x : NamedExpr × List Token) (a b : NamedExpr)
+    → ((s t : Sum) → factor (make s t) ≡ tokens.Word key ∷ both_tokens s t) → ((s t : Sum) → factor_of (make s t) ≡ exprs.Op op (sum_of s) (sum_of t))
+    → ts ≡ both_tokens s t ++ x.1 → sum_of s ≡ a → sum_of t ≡ b → exprs.Op op a b ≡ x.0 → Wrote factor factor_of (tokens.Word key ∷ ts) x
+both_wrote op key make s t ts x a b writes means is first second whole = record {
+  written = make s t;
+  tokens = ap (λ (l : List Token). tokens.Word key ∷ l) is ∙ ap (λ (l : List Token). l ++ x.1) (sym (writes s t));
+  means = means s t ∙ joined op (sum_of s) a (sum_of t) b first second ∙ whole;
+}
+
 mutual
   pub factor_sound : (k : ℕ) (ts : List Token) (x : NamedExpr × List Token) → factor_at k ts ≡ Some x → Wrote factor factor_of ts x
   factor_sound zero ts x e = absurd cc
@@ -77,7 +111,7 @@ mutual
   factor_sound (suc k) (tokens.Zero ∷ ts) x e = subst (Wrote factor factor_of (tokens.Zero ∷ ts)) (some_is _ x e) (record { written = Factor.Literal Numeral.Zero; tokens = refl; means = refl })
   factor_sound (suc k) (tokens.One ∷ ts) x e = subst (Wrote factor factor_of (tokens.One ∷ ts)) (some_is _ x e) (record { written = Factor.Literal Numeral.One; tokens = refl; means = refl })
   factor_sound (suc k) (tokens.Number n ∷ ts) x e = subst (Wrote factor factor_of (tokens.Number n ∷ ts)) (some_is _ x e) (record { written = Factor.Literal (Numeral.Number n); tokens = refl; means = refl })
-  factor_sound (suc k) (tokens.Name f ∷ ts) x e = element_sound k (arrays.Own f) ts x e
+  factor_sound (suc k) (tokens.Name name ∷ ts) x e = named_sound k name ts x e
   factor_sound (suc k) (tokens.Dotted matrix part ∷ ts) x e = element_sound k (arrays.Dotted matrix part) ts x e
   factor_sound (suc k) (tokens.Left ∷ ts) x e =
       let b = bind_some (sum_at k ts) (λ x. right_at x.0 x.1) x e in
@@ -85,7 +119,23 @@ mutual
       let r = right_sound b.0.0 b.0.1 x b.2 in
       let inside : ts ≡ (sum s.written ++ tokens.Right ∷ []) ++ x.1 = s.tokens ∙ ap (λ (l : List Token). sum s.written ++ l) r.0 ∙ sym (append_assoc (sum s.written) (tokens.Right ∷ []) x.1) in
       record { written = Factor.Group s.written; tokens = ap (λ (l : List Token). tokens.Left ∷ l) inside; means = s.means ∙ r.1 }
+  factor_sound (suc k) (tokens.Word keys.Min ∷ ts) x e = both_sound k ops.Min keys.Min Factor.Lesser ts x (λ s t. refl) (λ s t. refl) e
+  factor_sound (suc k) (tokens.Word keys.Max ∷ ts) x e = both_sound k ops.Max keys.Max Factor.Greater ts x (λ s t. refl) (λ s t. refl) e
   factor_sound (suc k) (_ ∷ ts) x e = absurd cc
+
+  both_sound : (k : ℕ) (op : Op) (key : Keyword) (make : Sum → Sum → Factor) (ts : List Token) (x : NamedExpr × List Token)
+      → ((s t : Sum) → factor (make s t) ≡ tokens.Word key ∷ both_tokens s t) → ((s t : Sum) → factor_of (make s t) ≡ exprs.Op op (sum_of s) (sum_of t)) → both_at k op ts ≡ Some x → Wrote factor factor_of (tokens.Word key ∷ ts) x
+  both_sound zero op key make ts x writes means e = absurd cc
+  both_sound (suc k) op key make ts x writes means e =
+      let l = bind_some (left_at ts) (λ r. sum_at k r >>= λ a. comma_at a.1 >>= λ s. sum_at k s >>= λ b. right_at (exprs.Op op a.0 b.0) b.1) x e in
+      let a = bind_some (sum_at k l.0) (λ a. comma_at a.1 >>= λ s. sum_at k s >>= λ b. right_at (exprs.Op op a.0 b.0) b.1) x l.2 in
+      let c = bind_some (comma_at a.0.1) (λ s. sum_at k s >>= λ b. right_at (exprs.Op op a.0.0 b.0) b.1) x a.2 in
+      let b = bind_some (sum_at k c.0) (λ b. right_at (exprs.Op op a.0.0 b.0) b.1) x c.2 in
+      let r = right_sound (exprs.Op op a.0.0 b.0.0) b.0.1 x b.2 in
+      let s = sum_sound k l.0 a.0 a.1 in
+      let t = sum_sound k c.0 b.0 b.1 in
+      let is : ts ≡ both_tokens s.written t.written ++ x.1 = both_read s.written t.written ts l.0 a.0.1 c.0 b.0.1 x.1 (left_sound ts l.0 l.1) s.tokens (comma_sound a.0.1 c.0 c.1) t.tokens r.0 in
+      both_wrote op key make s.written t.written ts x a.0.0 b.0.0 writes means is s.means t.means r.1
 
   pub product_sound : (k : ℕ) (ts : List Token) (x : NamedExpr × List Token) → product_at k ts ≡ Some x → Wrote product product_of ts x
   product_sound zero ts x e = absurd cc
@@ -131,21 +181,35 @@ mutual
 
 -- ---- what is written is read
 
--- no factor follows, and nothing of a product or a sum follows
+-- no bracket follows, no factor follows, and nothing of a product or a sum follows
+abbrev pub ends_factor : List Token → Bool
+ends_factor (tokens.Open ∷ ts) = false
+ends_factor _ = true
+
 abbrev pub ends_product : List Token → Bool
+ends_product (tokens.Open ∷ ts) = false
 ends_product (tokens.Times ∷ ts) = false
 ends_product (tokens.Over ∷ ts) = false
 ends_product _ = true
 
 abbrev pub ends_sum : List Token → Bool
+ends_sum (tokens.Open ∷ ts) = false
 ends_sum (tokens.Times ∷ ts) = false
 ends_sum (tokens.Over ∷ ts) = false
 ends_sum (tokens.Plus ∷ ts) = false
 ends_sum (tokens.Minus ∷ ts) = false
 ends_sum _ = true
 
+product_factor : (ts : List Token) → ends_product ts ≡ true → ends_factor ts ≡ true
+product_factor [] e = refl
+product_factor (tokens.Open ∷ ts) e = e
+product_factor (tokens.Times ∷ ts) e = refl
+product_factor (tokens.Over ∷ ts) e = refl
+product_factor (_ ∷ ts) e = refl
+
 sum_product : (ts : List Token) → ends_sum ts ≡ true → ends_product ts ≡ true
 sum_product [] e = refl
+sum_product (tokens.Open ∷ ts) e = e
 sum_product (tokens.Times ∷ ts) e = e
 sum_product (tokens.Over ∷ ts) e = e
 sum_product (tokens.Plus ∷ ts) e = refl
@@ -155,6 +219,7 @@ sum_product (_ ∷ ts) e = refl
 factors_end : (k : ℕ) (e : NamedExpr) (ts : List Token) → 0 < k → ends_product ts ≡ true → factors_at k e ts ≡ Some (e, ts)
 factors_end zero e ts lt h = absurd (omega arith)
 factors_end (suc k) e [] lt h = refl
+factors_end (suc k) e (tokens.Open ∷ ts) lt h = absurd cc
 factors_end (suc k) e (tokens.Times ∷ ts) lt h = absurd cc
 factors_end (suc k) e (tokens.Over ∷ ts) lt h = absurd cc
 factors_end (suc k) e (_ ∷ ts) lt h = refl
@@ -162,6 +227,7 @@ factors_end (suc k) e (_ ∷ ts) lt h = refl
 products_end : (k : ℕ) (e : NamedExpr) (ts : List Token) → 0 < k → ends_sum ts ≡ true → products_at k e ts ≡ Some (e, ts)
 products_end zero e ts lt h = absurd (omega arith)
 products_end (suc k) e [] lt h = refl
+products_end (suc k) e (tokens.Open ∷ ts) lt h = absurd cc
 products_end (suc k) e (tokens.Times ∷ ts) lt h = absurd cc
 products_end (suc k) e (tokens.Over ∷ ts) lt h = absurd cc
 products_end (suc k) e (tokens.Plus ∷ ts) lt h = absurd cc
@@ -173,7 +239,10 @@ abbrev mutual
   pub cost_factor : Factor → ℕ
   cost_factor (Factor.Literal n) = 1
   cost_factor (Factor.Element f t) = suc (height t)
+  cost_factor (Factor.Local name) = 1
   cost_factor (Factor.Group s) = suc (cost_sum s)
+  cost_factor (Factor.Lesser s t) = suc (suc (cost_sum s + cost_sum t))
+  cost_factor (Factor.Greater s t) = suc (suc (cost_sum s + cost_sum t))
 
   pub cost_product : Product → ℕ
   cost_product (Product.One f) = suc (cost_factor f)
@@ -198,7 +267,10 @@ products_in (Sum.Minus s p) = suc (products_in s)
 some_factor : (f : Factor) → 0 < cost_factor f
 some_factor (Factor.Literal n) = omega arith
 some_factor (Factor.Element f t) = omega arith
+some_factor (Factor.Local name) = omega arith
 some_factor (Factor.Group s) = omega arith
+some_factor (Factor.Lesser s t) = omega arith
+some_factor (Factor.Greater s t) = omega arith
 
 few_factors : (p : Product) → factors_in p < cost_product p
 few_factors (Product.One f) = let h = some_factor f in omega (arith, h)
@@ -220,6 +292,19 @@ element_again : (k : ℕ) (f : ArrayName) (t : Written) (rest : List Token) → 
 element_again k f t rest le =
     let inner = term_again t k (tokens.Close ∷ rest) le refl in
     rw (append_assoc (term t) (tokens.Close ∷ []) rest, inner) refl
+
+named_again : (k : ℕ) (name : List ℕ) (rest : List Token) → ends_factor rest ≡ true → named_at k name rest ≡ Some (exprs.Local name, rest)
+named_again k name (tokens.Open ∷ ts) e = absurd cc
+named_again k name _ e = refl
+
+both_again : (s t : Sum) (op : Op) (k : ℕ) (rest : List Token)
+    → sum_at k (sum s ++ (tokens.Comma ∷ (sum t ++ (tokens.Right ∷ rest)))) ≡ Some (sum_of s, tokens.Comma ∷ (sum t ++ (tokens.Right ∷ rest)))
+    → sum_at k (sum t ++ (tokens.Right ∷ rest)) ≡ Some (sum_of t, tokens.Right ∷ rest)
+    → both_at (suc k) op (both_tokens s t ++ rest) ≡ Some (exprs.Op op (sum_of s) (sum_of t), rest)
+both_again s t op k rest first second =
+    let is : both_tokens s t ++ rest ≡ tokens.Left ∷ (sum s ++ (tokens.Comma ∷ (sum t ++ (tokens.Right ∷ rest)))) = ap (λ (l : List Token). tokens.Left ∷ l) (append_assoc (sum s) (tokens.Comma ∷ (sum t ++ tokens.Right ∷ [])) rest ∙ ap (λ (l : List Token). sum s ++ (tokens.Comma ∷ l)) (append_assoc (sum t) (tokens.Right ∷ []) rest)) in
+    let read : both_at (suc k) op (tokens.Left ∷ (sum s ++ (tokens.Comma ∷ (sum t ++ (tokens.Right ∷ rest))))) ≡ Some (exprs.Op op (sum_of s) (sum_of t), rest) = rw (first, second) refl in
+    ap (both_at (suc k) op) is ∙ read
 
 product_end : (w : Product) (k : ℕ) (rest : List Token) → cost_product w ≤ k → ends_product rest ≡ true → Reaches (product_at k (product w ++ rest)) factors_at k (factors_in w) (product_of w) rest → product_at k (product w ++ rest) ≡ Some (product_of w, rest)
 product_end w k rest le e h =
@@ -245,40 +330,60 @@ minus_on : (k j : ℕ) (e : NamedExpr) (p : Product) (rest : List Token) → k �
 minus_on k j e p rest is h = rw (is, h) refl
 
 mutual
-  pub factor_again : (w : Factor) (k : ℕ) (rest : List Token) → cost_factor w ≤ k → factor_at k (factor w ++ rest) ≡ Some (factor_of w, rest)
-  factor_again (Factor.Literal n) zero rest le = absurd (omega arith)
-  factor_again (Factor.Literal Numeral.Zero) (suc k) rest le = refl
-  factor_again (Factor.Literal Numeral.One) (suc k) rest le = refl
-  factor_again (Factor.Literal (Numeral.Number n)) (suc k) rest le = refl
-  factor_again (Factor.Element f t) zero rest le = absurd (omega arith)
-  factor_again (Factor.Element (arrays.Own name) t) (suc k) rest le = element_again k (arrays.Own name) t rest (omega arith)
-  factor_again (Factor.Element (arrays.Dotted matrix part) t) (suc k) rest le = element_again k (arrays.Dotted matrix part) t rest (omega arith)
-  factor_again (Factor.Group s) zero rest le = absurd (omega arith)
-  factor_again (Factor.Group s) (suc k) rest le =
+  pub factor_again : (w : Factor) (k : ℕ) (rest : List Token) → cost_factor w ≤ k → ends_factor rest ≡ true → factor_at k (factor w ++ rest) ≡ Some (factor_of w, rest)
+  factor_again (Factor.Literal n) zero rest le e = absurd (omega arith)
+  factor_again (Factor.Literal Numeral.Zero) (suc k) rest le e = refl
+  factor_again (Factor.Literal Numeral.One) (suc k) rest le e = refl
+  factor_again (Factor.Literal (Numeral.Number n)) (suc k) rest le e = refl
+  factor_again (Factor.Element f t) zero rest le e = absurd (omega arith)
+  factor_again (Factor.Element (arrays.Own name) t) (suc k) rest le e = element_again k (arrays.Own name) t rest (omega arith)
+  factor_again (Factor.Element (arrays.Dotted matrix part) t) (suc k) rest le e = element_again k (arrays.Dotted matrix part) t rest (omega arith)
+  factor_again (Factor.Local name) zero rest le e = absurd (omega arith)
+  factor_again (Factor.Local name) (suc k) rest le e = named_again k name rest e
+  factor_again (Factor.Group s) zero rest le e = absurd (omega arith)
+  factor_again (Factor.Group s) (suc k) rest le e =
       let fits : cost_sum s ≤ k = omega arith in
       let inner = sum_end s k (tokens.Right ∷ rest) fits refl (sum_steps s k (tokens.Right ∷ rest) fits refl) in
       rw (append_assoc (sum s) (tokens.Right ∷ []) rest, inner) refl
+  factor_again (Factor.Lesser s t) zero rest le e = absurd (omega arith)
+  factor_again (Factor.Lesser s t) (suc zero) rest le e = absurd (omega arith)
+  factor_again (Factor.Lesser s t) (suc (suc k)) rest le e =
+      let left : cost_sum s ≤ k = omega arith in
+      let right : cost_sum t ≤ k = omega arith in
+      let after : List Token = tokens.Comma ∷ (sum t ++ (tokens.Right ∷ rest)) in
+      let first = sum_end s k after left refl (sum_steps s k after left refl) in
+      let second = sum_end t k (tokens.Right ∷ rest) right refl (sum_steps t k (tokens.Right ∷ rest) right refl) in
+      both_again s t ops.Min k rest first second
+  factor_again (Factor.Greater s t) zero rest le e = absurd (omega arith)
+  factor_again (Factor.Greater s t) (suc zero) rest le e = absurd (omega arith)
+  factor_again (Factor.Greater s t) (suc (suc k)) rest le e =
+      let left : cost_sum s ≤ k = omega arith in
+      let right : cost_sum t ≤ k = omega arith in
+      let after : List Token = tokens.Comma ∷ (sum t ++ (tokens.Right ∷ rest)) in
+      let first = sum_end s k after left refl (sum_steps s k after left refl) in
+      let second = sum_end t k (tokens.Right ∷ rest) right refl (sum_steps t k (tokens.Right ∷ rest) right refl) in
+      both_again s t ops.Max k rest first second
 
-  product_steps : (w : Product) (k : ℕ) (rest : List Token) → cost_product w ≤ k → Reaches (product_at k (product w ++ rest)) factors_at k (factors_in w) (product_of w) rest
-  product_steps (Product.One f) zero rest le = absurd (omega arith)
-  product_steps (Product.One f) (suc k) rest le =
-      let inner = factor_again f k rest (omega arith) in
+  product_steps : (w : Product) (k : ℕ) (rest : List Token) → cost_product w ≤ k → ends_factor rest ≡ true → Reaches (product_at k (product w ++ rest)) factors_at k (factors_in w) (product_of w) rest
+  product_steps (Product.One f) zero rest le e = absurd (omega arith)
+  product_steps (Product.One f) (suc k) rest le e =
+      let inner = factor_again f k rest (omega arith) e in
       record { left = k; turns_left = omega arith; same = rw inner refl }
-  product_steps (Product.Times p f) k rest le =
-      let h = product_steps p k (tokens.Times ∷ (factor f ++ rest)) (omega arith) in
+  product_steps (Product.Times p f) k rest le e =
+      let h = product_steps p k (tokens.Times ∷ (factor f ++ rest)) (omega arith) refl in
       let few = few_factors p in
       let j : h.left ≡ suc (h.left - 1) = omega (arith, few, h.turns_left) in
-      let inner = factor_again f (h.left - 1) rest (omega (arith, few, h.turns_left)) in
+      let inner = factor_again f (h.left - 1) rest (omega (arith, few, h.turns_left)) e in
       record {
         left = h.left - 1;
         turns_left = omega (arith, j, h.turns_left);
         same = ap (product_at k) (append_assoc (product p) (tokens.Times ∷ factor f) rest) ∙ h.same ∙ times_on h.left (h.left - 1) (product_of p) f rest j inner;
       }
-  product_steps (Product.Over p f) k rest le =
-      let h = product_steps p k (tokens.Over ∷ (factor f ++ rest)) (omega arith) in
+  product_steps (Product.Over p f) k rest le e =
+      let h = product_steps p k (tokens.Over ∷ (factor f ++ rest)) (omega arith) refl in
       let few = few_factors p in
       let j : h.left ≡ suc (h.left - 1) = omega (arith, few, h.turns_left) in
-      let inner = factor_again f (h.left - 1) rest (omega (arith, few, h.turns_left)) in
+      let inner = factor_again f (h.left - 1) rest (omega (arith, few, h.turns_left)) e in
       record {
         left = h.left - 1;
         turns_left = omega (arith, j, h.turns_left);
@@ -289,14 +394,14 @@ mutual
   sum_steps (Sum.Alone p) zero rest le e = absurd (omega arith)
   sum_steps (Sum.Alone p) (suc k) rest le e =
       let fits : cost_product p ≤ k = omega arith in
-      let inner = product_end p k rest fits e (product_steps p k rest fits) in
+      let inner = product_end p k rest fits e (product_steps p k rest fits (product_factor rest e)) in
       record { left = k; turns_left = omega arith; same = rw inner refl }
   sum_steps (Sum.Plus s p) k rest le e =
       let h = sum_steps s k (tokens.Plus ∷ (product p ++ rest)) (omega arith) refl in
       let few = few_products s in
       let j : h.left ≡ suc (h.left - 1) = omega (arith, few, h.turns_left) in
       let fits : cost_product p ≤ h.left - 1 = omega (arith, few, h.turns_left) in
-      let inner = product_end p (h.left - 1) rest fits e (product_steps p (h.left - 1) rest fits) in
+      let inner = product_end p (h.left - 1) rest fits e (product_steps p (h.left - 1) rest fits (product_factor rest e)) in
       record {
         left = h.left - 1;
         turns_left = omega (arith, j, h.turns_left);
@@ -307,7 +412,7 @@ mutual
       let few = few_products s in
       let j : h.left ≡ suc (h.left - 1) = omega (arith, few, h.turns_left) in
       let fits : cost_product p ≤ h.left - 1 = omega (arith, few, h.turns_left) in
-      let inner = product_end p (h.left - 1) rest fits e (product_steps p (h.left - 1) rest fits) in
+      let inner = product_end p (h.left - 1) rest fits e (product_steps p (h.left - 1) rest fits (product_factor rest e)) in
       record {
         left = h.left - 1;
         turns_left = omega (arith, j, h.turns_left);
@@ -334,7 +439,10 @@ mutual
   factor_cost : (w : Factor) → cost_factor w + 2 ≤ 3 * length (factor w)
   factor_cost (Factor.Literal n) = let h = numeral_one n in omega (arith, h)
   factor_cost (Factor.Element f t) = let h = term_some t in omega (arith, h, length-append (term t) (tokens.Close ∷ []))
+  factor_cost (Factor.Local name) = omega arith
   factor_cost (Factor.Group s) = let h = sum_cost s in omega (arith, h, length-append (sum s) (tokens.Right ∷ []))
+  factor_cost (Factor.Lesser s t) = let h = sum_cost s in let g = sum_cost t in omega (arith, h, g, length-append (sum s) (tokens.Comma ∷ (sum t ++ tokens.Right ∷ [])), length-append (sum t) (tokens.Right ∷ []))
+  factor_cost (Factor.Greater s t) = let h = sum_cost s in let g = sum_cost t in omega (arith, h, g, length-append (sum s) (tokens.Comma ∷ (sum t ++ tokens.Right ∷ [])), length-append (sum t) (tokens.Right ∷ []))
 
   product_cost : (w : Product) → cost_product w + 1 ≤ 3 * length (product w)
   product_cost (Product.One f) = let h = factor_cost f in omega (arith, h)
@@ -367,19 +475,3 @@ whole_again w k le =
     let cost = sum_cost w in
     let one : sum_at k (sum w) ≡ Some (sum_of w, []) = ap (sum_at k) (sym (append-nil (sum w))) ∙ sum_again w k [] (omega (arith, cost)) refl in
     rw one refl
-
-pub only_one : (ts : List Token) (e f : NamedExpr) → IsExpr ts e → IsExpr ts f → e ≡ f
-only_one ts e f p q =
-    let k = 3 * length ts in
-    let a : (sum_at k ts >>= λ x. all_read x.0 x.1) ≡ Some e = subst (λ (l : List Token). (sum_at k l >>= λ x. all_read x.0 x.1) ≡ Some e) (sym p.tokens) (whole_again p.written k (omega (arith, ap length p.tokens)) ∙ ap (λ (x : NamedExpr). Some x) p.means) in
-    let b : (sum_at k ts >>= λ x. all_read x.0 x.1) ≡ Some f = subst (λ (l : List Token). (sum_at k l >>= λ x. all_read x.0 x.1) ≡ Some f) (sym q.tokens) (whole_again q.written k (omega (arith, ap length q.tokens)) ∙ ap (λ (x : NamedExpr). Some x) q.means) in
-    some_is _ _ (sym a ∙ b)
-
-pub found_is : (ts : List Token) (r : Result NamedExpr LineRefusal) → Gives (λ x. x) r (sum_at (3 * length ts) ts >>= λ x. all_read x.0 x.1) → IfOk r (λ e. IsExpr ts e)
-found_is ts (Ok e) h = whole_sound (3 * length ts) ts e h
-found_is ts (Err e) h = tt
-
-pub only_is : (ts : List Token) (r : Result NamedExpr LineRefusal) (e : NamedExpr) → IsExpr ts e → Gives (λ x. x) r (sum_at (3 * length ts) ts >>= λ x. all_read x.0 x.1) → Gives (λ x. x) r (Some e)
-only_is ts r e p h =
-    let one : (sum_at (3 * length ts) ts >>= λ x. all_read x.0 x.1) ≡ Some e = subst (λ (l : List Token). (sum_at (3 * length ts) l >>= λ x. all_read x.0 x.1) ≡ Some e) (sym p.tokens) (whole_again p.written (3 * length ts) (omega (arith, ap length p.tokens)) ∙ ap (λ (x : NamedExpr). Some x) p.means) in
-    subst (λ (o : Option NamedExpr). Gives (λ x. x) r o) one h

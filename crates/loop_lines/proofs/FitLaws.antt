@@ -6,10 +6,7 @@ use Rattle.loop_lines.specs.declared.line.Line.{Line}
 use Rattle.loop_lines.specs.declared.line.Line.TheVariants as forms
 use Rattle.loop_lines.specs.declared.place.Place.{Place}
 use Rattle.loop_lines.specs.declared.place.Place.TheVariants.{Heading, Inside, Behind}
-use Rattle.loop_lines.specs.declared.refusal.LineRefusal.{LineRefusal}
-use Rattle.loop_lines.specs.declared.refusal.LineRefusal.TheVariants as refusals
-use Rattle.loop_lines.specs.Reading.{Fails}
-use Rattle.loop_lines.specs.Fitting.{text_line, heading_after, body_after, place_after, moved, next_place, ending, misfit, open_blocks}
+use Rattle.loop_lines.specs.Fitting.{text_line, heading_after, body_after, place_after, moved, next_place, misfit, open_blocks}
 use Rattle.loop_lines.proofs.TermLaws.{bind_some}
 
 pub goes_on : (s : List ℕ) (p q : Place) (n : ℕ) (total : Option ℕ) → 0 < length s → next_place p (first_line s) ≡ Some q → misfit p n (lines s) ≡ total → misfit q (n + 1) (lines (after_line s)) ≡ total
@@ -24,10 +21,6 @@ stops (b ∷ s) p n total some e h =
     let one : misfit p n (first_line (b ∷ s) ∷ lines (after_line (b ∷ s))) ≡ Some n = rw e refl in
     sym h ∙ ap (misfit p n) (lines_first b s) ∙ one
 
-pub ends : (s : List ℕ) (p : Place) (n : ℕ) (total : Option ℕ) → length s ≡ 0 → misfit p n (lines s) ≡ total → total ≡ ending p n
-ends [] p n total z h = sym h
-ends (b ∷ s) p n total z h = absurd (omega arith)
-
 -- ---- a line opens at most one block
 
 abbrev AtMost : ℕ → Option Place → Type 0
@@ -38,6 +31,7 @@ heading_opens : (m : Bool) (l : Line) → AtMost 1 (heading_after m l)
 heading_opens false (forms.Matrix name form) = omega arith
 heading_opens m (forms.Index name size) = omega arith
 heading_opens m (forms.Vector name size source) = omega arith
+heading_opens m (forms.Local name) = omega arith
 heading_opens m (forms.Prop prop) = omega arith
 heading_opens true (forms.Loop name) = omega arith
 heading_opens _ _ = tt
@@ -46,6 +40,7 @@ body_opens : (k : ℕ) (l : Line) → AtMost (k + 1) (body_after k l)
 body_opens k (forms.For name lo hi) = omega arith
 body_opens k (forms.When rel left right) = omega arith
 body_opens k (forms.Set array at value) = omega arith
+body_opens k (forms.Keep name value) = omega arith
 body_opens zero forms.End = omega arith
 body_opens (suc k) forms.End = omega arith
 body_opens _ _ = tt
@@ -65,11 +60,6 @@ next_opens p q s e =
     subst (AtMost (open_blocks p + 1)) b.2 (moved_opens p b.0)
 
 -- ---- the loop
-
-pub stopped : (s line : List ℕ) (p : Place) (n : ℕ) (r : LineRefusal) (total : Option ℕ) → 0 < length s → line ≡ first_line s → r ≡ refusals.Text → Fails r (next_place p line) → misfit p n (lines s) ≡ total → Some n ≡ total
-stopped s line p n r total lt is text f h =
-    let g : Fails refusals.Text (next_place p line) = subst (λ (r : LineRefusal). Fails r (next_place p line)) text f in
-    sym (stops s p n total lt (ap (next_place p) (sym is) ∙ g) h)
 
 pub went : (s line after : List ℕ) (p q : Place) (n : ℕ) (total : Option ℕ) → 0 < length s → line ≡ first_line s → after ≡ after_line s → next_place p line ≡ Some q → misfit p n (lines s) ≡ total → misfit q (n + 1) (lines after) ≡ total
 went s line after p q n total lt is rest e h =

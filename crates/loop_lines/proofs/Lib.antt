@@ -15,3 +15,4 @@ mod ShowableWords
 mod ShowableTokens
 mod ShowableLines
 pub mod ShownLaws
+pub mod GrammarLaws

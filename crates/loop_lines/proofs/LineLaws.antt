@@ -1,6 +1,5 @@
 -- What is read is a line of the grammar, and a line of the grammar is read.
-use Rattle.std.proofs.Common.{◌≡◌, ℕ, ℤ, ◌*◌, true, List, [], ◌∷◌, ◌++◌, length, Option, Some, refl, sym, ap, subst, ◌∙◌, arith}
-use Rattle.std.specs.Prelude.{Result, Ok, Err, IfOk}
+use Rattle.std.proofs.Common.{◌≡◌, ℕ, ℤ, ◌*◌, true, List, [], ◌∷◌, ◌++◌, length, Option, Some, None, refl, sym, ap, subst, ◌∙◌, arith}
 use Rattle.std.proofs.lemmas.List.{length-append, append-nil}
 use Rattle.loop_core.specs.declared.decl.Form.{Form}
 use Rattle.loop_core.specs.declared.decl.Form.TheVariants.{Csr, Csc}
@@ -10,7 +9,6 @@ use Rattle.loop_core.specs.declared.decl.Source.{Source}
 use Rattle.loop_core.specs.declared.decl.Source.TheVariants.{File, Zeros}
 use Rattle.loop_core.specs.declared.nest.Rel.{Rel}
 use Rattle.loop_core.specs.declared.nest.Rel.TheVariants as rels
-use Rattle.loop_lines.specs.declared.refusal.LineRefusal.{LineRefusal}
 use Rattle.loop_lines.specs.declared.token.Keyword.{Keyword}
 use Rattle.loop_lines.specs.declared.token.Keyword.TheVariants as keys
 use Rattle.loop_lines.specs.declared.token.Token.{Token}
@@ -26,8 +24,8 @@ use Rattle.loop_lines.specs.declared.line.Line.TheVariants as lines
 use Rattle.loop_lines.specs.Grammar.{Numeral, Written, array, term, meaning}
 use Rattle.loop_lines.specs.Exprs.{Sum, sum, sum_of}
 use Rattle.loop_lines.specs.Lines.{Bound, bound, WrittenLine, form, size, source, rel, by_pair, line, line_of, IsLine}
-use Rattle.loop_lines.specs.Reading.{◌>>=◌, Gives, array_at, entry_at, close_at, zero_at, negated_at, constant}
-use Rattle.loop_lines.specs.LineReading.{end_at, name_at, in_at, of_at, by_at, to_at, assign_at, rel_at, form_at, one_at, longer_at, size_at, source_at, matrix_at, index_at, last_source_at, vector_at, alone_at, pair_at, by_pair_at, diagonal_at, bound_at, last_bound_at, range_at, loop_at, free_term_at, last_term_at, terms_at, for_at, when_at, value_at, assigned_at, set_at, last_at, prop_at, form_line_at, line_at}
+use Rattle.loop_lines.specs.Reading.{◌>>=◌, or_else, array_at, entry_at, close_at, zero_at, negated_at, constant}
+use Rattle.loop_lines.specs.LineReading.{end_at, name_at, in_at, of_at, by_at, to_at, assign_at, rel_at, form_at, one_at, longer_at, size_at, source_at, matrix_at, index_at, last_source_at, vector_at, local_at, alone_at, pair_at, by_pair_at, diagonal_at, bound_at, last_bound_at, range_at, loop_at, free_term_at, last_term_at, terms_at, for_at, when_at, value_at, kept_at, keep_at, assigned_at, put_at, set_at, last_at, prop_at, form_line_at, line_at}
 use Rattle.loop_lines.proofs.TermLaws.{Wrote, bind_some, some_is, negated_sound, negated_again, shifted_sound, array_sound, entry_sound, close_sound, term_sound, term_again, ends_term, shifted_again, zero_again, array_again}
 use Rattle.loop_lines.proofs.ExprLaws.{whole_sound, whole_again, term_some}
 
@@ -174,6 +172,13 @@ vector_sound ts l e =
     let s = size_sound b.0.1 b.1 b.4 ∙ ap (λ (r : List Token). size b.1.0 ++ r) (last_source_sound b.1.1 b.2 b.5) in
     record { written = WrittenLine.Vector b.0.0 b.1.0 b.2; tokens = cc; means = b.6 }
 
+local_sound : (ts : List Token) (l : Line) → local_at ts ≡ Some l → IsRead (tokens.Word keys.Local ∷ ts) l
+local_sound ts l e =
+    let b = bind2 (name_at ts) (λ a. end_at a.1) (λ a u. lines.Local a.0) l e in
+    let n = name_sound ts b.0 b.2 in
+    let d = end_sound b.0.1 b.1 b.3 in
+    record { written = WrittenLine.Local b.0.0; tokens = cc; means = b.4 }
+
 -- ---- properties
 
 alone_sound : (ts : List Token) (x : ArrayName) → alone_at ts ≡ Some x → ts ≡ array x ∷ []
@@ -298,28 +303,48 @@ when_sound ts l e =
       means = rw (left.means, right.means) b.6;
     }
 
+kept_sound : (ts : List Token) (x : NamedExpr) → kept_at ts ≡ Some x → Whole (λ w. tokens.Assign ∷ sum w) sum_of ts x
+kept_sound ts x e =
+    let a = bind_some (assign_at ts) (λ s. value_at s) x e in
+    let v = whole_sound (3 * length a.0) a.0 x a.2 in
+    record { written = v.written; tokens = assign_sound ts a.0 a.1 ∙ ap (λ (l : List Token). tokens.Assign ∷ l) v.tokens; means = v.means }
+
 assigned_sound : (ts : List Token) (x : NamedExpr) → assigned_at ts ≡ Some x → Whole (λ w. tokens.Close ∷ tokens.Assign ∷ sum w) sum_of ts x
 assigned_sound ts x e =
-    let c = bind_some (close_at ts) (λ r. assign_at r >>= λ s. value_at s) x e in
-    let a = bind_some (assign_at c.0) (λ s. value_at s) x c.2 in
-    let v = whole_sound (3 * length a.0) a.0 x a.2 in
+    let c = bind_some (close_at ts) (λ r. kept_at r) x e in
+    let v = kept_sound c.0 x c.2 in
+    record { written = v.written; tokens = close_sound ts c.0 c.1 ∙ ap (λ (l : List Token). tokens.Close ∷ l) v.tokens; means = v.means }
+
+put_sound : (ts : List Token) (a : ArrayName × List Token) (l : Line) → ts ≡ array a.0 ∷ tokens.Open ∷ a.1 → put_at a.0 a.1 ≡ Some l → IsRead (tokens.Word keys.Set ∷ ts) l
+put_sound ts a l is e =
+    let b = bind2 (free_term_at a.1) (λ t. assigned_at t.1) (λ t v. lines.Set a.0 t.0 v) l e in
+    let t = term_sound (length a.1) a.1 b.0 b.2 in
+    let v = assigned_sound b.0.1 b.1 b.3 in
     record {
-      written = v.written;
-      tokens = close_sound ts c.0 c.1 ∙ ap (λ (l : List Token). tokens.Close ∷ l) (assign_sound c.0 a.0 a.1 ∙ ap (λ (l : List Token). tokens.Assign ∷ l) v.tokens);
-      means = v.means;
+      written = WrittenLine.Set a.0 t.written v.written;
+      tokens = ap (λ (l : List Token). tokens.Word keys.Set ∷ l) (is ∙ ap (λ (l : List Token). array a.0 ∷ tokens.Open ∷ l) (t.tokens ∙ ap (λ (l : List Token). term t.written ++ l) v.tokens));
+      means = rw (t.means, v.means) b.4;
+    }
+
+keep_sound : (ts : List Token) (l : Line) → keep_at ts ≡ Some l → IsRead (tokens.Word keys.Set ∷ ts) l
+keep_sound ts l e =
+    let b = bind2 (name_at ts) (λ a. kept_at a.1) (λ a v. lines.Keep a.0 v) l e in
+    let n = name_sound ts b.0 b.2 in
+    let v = kept_sound b.0.1 b.1 b.3 in
+    record {
+      written = WrittenLine.Keep b.0.0 v.written;
+      tokens = ap (λ (l : List Token). tokens.Word keys.Set ∷ l) (n ∙ ap (λ (l : List Token). tokens.Name b.0.0 ∷ l) v.tokens);
+      means = rw v.means b.4;
     }
 
 set_sound : (ts : List Token) (l : Line) → set_at ts ≡ Some l → IsRead (tokens.Word keys.Set ∷ ts) l
 set_sound ts l e =
-    let b = bind3 (entry_at ts) (λ a. free_term_at a.1) (λ a t. assigned_at t.1) (λ a t v. lines.Set a.0 t.0 v) l e in
-    let a = entry_sound ts b.0 b.3 in
-    let t = term_sound (length b.0.1) b.0.1 b.1 b.4 in
-    let v = assigned_sound b.1.1 b.2 b.5 in
-    record {
-      written = WrittenLine.Set b.0.0 t.written v.written;
-      tokens = ap (λ (l : List Token). tokens.Word keys.Set ∷ l) (a ∙ ap (λ (l : List Token). array b.0.0 ∷ tokens.Open ∷ l) (t.tokens ∙ ap (λ (l : List Token). term t.written ++ l) v.tokens));
-      means = rw (t.means, v.means) b.6;
-    }
+    let P : Option (ArrayName × List Token) → Type 0 = λ o. entry_at ts ≡ o → or_else o (λ a. put_at a.0 a.1) (keep_at ts) ≡ Some l → IsRead (tokens.Word keys.Set ∷ ts) l in
+    let each : (o : Option (ArrayName × List Token)) → P o = λ o. elim o as P [
+      | None ↦ (λ d f. keep_sound ts l f)
+      | Some a ↦ (λ d f. put_sound ts a l (entry_sound ts a d) f)
+    ] in
+    each (entry_at ts) refl e
 
 last_sound : (ts : List Token) (l : Line) → last_at ts ≡ Some l → IsRead (tokens.Word keys.End ∷ ts) l
 last_sound ts l e =
@@ -366,6 +391,7 @@ form_line_sound : (k : Keyword) (ts : List Token) (l : Line) → form_line_at k 
 form_line_sound keys.Matrix ts l e = matrix_sound ts l e
 form_line_sound keys.Index ts l e = index_sound ts l e
 form_line_sound keys.Vector ts l e = vector_sound ts l e
+form_line_sound keys.Local ts l e = local_sound ts l e
 form_line_sound keys.Loop ts l e = loop_sound ts l e
 form_line_sound keys.For ts l e = for_sound ts l e
 form_line_sound keys.When ts l e = when_sound ts l e
@@ -446,6 +472,7 @@ line_again (WrittenLine.Index name s) =
     let h : size_at (size s) ≡ Some (s, []) = ap size_at (sym (append-nil (size s))) ∙ size_again s [] refl in
     rw h refl
 line_again (WrittenLine.Vector name s c) = rw (size_again s (source c ∷ []) (source_no_plus c []), source_again c []) refl
+line_again (WrittenLine.Local name) = refl
 line_again (WrittenLine.Range f lo hi) = rw (range_again f lo hi) refl
 line_again (WrittenLine.Rising p) = rw (array_again p []) refl
 line_again (WrittenLine.Strict p) = rw (array_again p []) refl
@@ -459,13 +486,5 @@ line_again (WrittenLine.Loop name) = refl
 line_again (WrittenLine.For name lo hi) = rw (free_term_again lo (tokens.To ∷ term hi) refl, last_term_again hi) refl
 line_again (WrittenLine.When left r right) = rw (free_term_again left (rel r ∷ term right) (rel_ends r (term right)), rel_again r (term right), last_term_again right) refl
 line_again (WrittenLine.Set x at value) = rw (array_again x (tokens.Open ∷ (term at ++ tokens.Close ∷ tokens.Assign ∷ sum value)), free_term_again at (tokens.Close ∷ tokens.Assign ∷ sum value) refl, value_again value) refl
+line_again (WrittenLine.Keep name value) = rw (value_again value) refl
 line_again WrittenLine.End = refl
-
-pub line_found : (ts : List Token) (r : Result Line LineRefusal) → Gives (λ x. x) r (line_at ts) → IfOk r (λ l. IsLine ts l)
-line_found ts (Ok l) h = line_sound ts l h
-line_found ts (Err e) h = tt
-
-pub line_only : (ts : List Token) (r : Result Line LineRefusal) (l : Line) → IsLine ts l → Gives (λ x. x) r (line_at ts) → Gives (λ x. x) r (Some l)
-line_only ts r l p h =
-    let one : line_at ts ≡ Some l = ap line_at p.tokens ∙ line_again p.written ∙ ap (λ (x : Line). Some x) p.means in
-    subst (λ (o : Option Line). Gives (λ x. x) r o) one h

@@ -52,7 +52,7 @@ pick_token false t o x y = y
 
 sign_plain : (b : ℕ) → IfToken (sign b)
 sign_plain b =
-    pick_token (b == 91) tokens.Open _ tt (pick_token (b == 93) tokens.Close _ tt (pick_token (b == 40) tokens.Left _ tt (pick_token (b == 41) tokens.Right _ tt (pick_token (b == 43) tokens.Plus _ tt (pick_token (b == 45) tokens.Minus _ tt (pick_token (b == 42) tokens.Times _ tt (pick_token (b == 47) tokens.Over None tt tt)))))))
+    pick_token (b == 91) tokens.Open _ tt (pick_token (b == 93) tokens.Close _ tt (pick_token (b == 40) tokens.Left _ tt (pick_token (b == 41) tokens.Right _ tt (pick_token (b == 44) tokens.Comma _ tt (pick_token (b == 43) tokens.Plus _ tt (pick_token (b == 45) tokens.Minus _ tt (pick_token (b == 42) tokens.Times _ tt (pick_token (b == 47) tokens.Over None tt tt))))))))
 
 signed_plain : (o : Option Token) → IfToken o → PlainMark (signed o)
 signed_plain None h = tt
@@ -188,6 +188,7 @@ from_written : (w : WrittenLine) → PlainTokens (line w) → IsPlainLine (line_
 from_written (WrittenLine.Matrix name f) (word, (plain, rest)) = plain
 from_written (WrittenLine.Index name s) (word, (plain, rest)) = plain
 from_written (WrittenLine.Vector name s c) (word, (plain, rest)) = plain
+from_written (WrittenLine.Local name) (word, (plain, rest)) = plain
 from_written (WrittenLine.Range f lo hi) g = tt
 from_written (WrittenLine.Rising p) g = tt
 from_written (WrittenLine.Strict p) g = tt
@@ -201,6 +202,7 @@ from_written (WrittenLine.Loop name) (word, (plain, rest)) = plain
 from_written (WrittenLine.For name lo hi) (word, (plain, rest)) = plain
 from_written (WrittenLine.When left r right) g = tt
 from_written (WrittenLine.Set x at value) g = tt
+from_written (WrittenLine.Keep name value) g = tt
 from_written WrittenLine.End g = tt
 
 line_plain : (ts : List Token) (o : Option Line) → line_at ts ≡ o → PlainTokens ts → IfLine o

@@ -24,7 +24,7 @@ use Rattle.loop_lines.specs.Lines.{Bound, bound, WrittenLine, line, line_of}
 use Rattle.loop_lines.specs.Showable.{is_array, is_shift, showable_atom_step, showable_term_step, is_showable_term, showable_value_step, is_showable_value, bound_step, bound_term_step, is_showable_bound, IsShowable}
 use Rattle.loop_lines.proofs.Bools.{and_both}
 use Rattle.loop_lines.proofs.ShownTerms.{zero_atom, rows_atom, stored_atom, named_atom, entry_atom, is_showable_atom, is_bound_atom}
-use Rattle.loop_lines.proofs.ShownValues.{rolled_op, rolled_literal, rolled_read}
+use Rattle.loop_lines.proofs.ShownValues.{rolled_op, rolled_literal, rolled_read, rolled_local}
 use Rattle.loop_lines.proofs.ShowableWords.{ShowableToken}
 use Rattle.loop_lines.proofs.ShowableTokens.{ShowableTokens}
 
@@ -117,15 +117,28 @@ read_fits : (f : ArrayName) (t : NamedTerm) → is_array f ≡ true → is_showa
 read_fits f t e g =
     ap is_showable_value (sym (rolled_read f t)) ∙ fold-roll-NamedExpr Bool showable_value_step (NamedExpr-F.Read f t) ∙ and_both (is_array f) (is_showable_term t) e g
 
+local_fits : (name : List ℕ) → is_name name ≡ true → is_showable_value (exprs.Local name) ≡ true
+local_fits name e = ap is_showable_value (sym (rolled_local name)) ∙ fold-roll-NamedExpr Bool showable_value_step (NamedExpr-F.Local name) ∙ e
+
 op_fits : (op : Op) (l r : NamedExpr) → is_showable_value l ≡ true → is_showable_value r ≡ true → is_showable_value (exprs.Op op l r) ≡ true
 op_fits op l r e g =
     ap is_showable_value (sym (rolled_op op l r)) ∙ fold-roll-NamedExpr Bool showable_value_step (NamedExpr-F.Op op l r) ∙ and_both (is_showable_value l) (is_showable_value r) e g
+
+-- of two sums with a comma between them
+first_of : (s t : Sum) → ShowableTokens (sum s ++ tokens.Comma ∷ (sum t ++ tokens.Right ∷ [])) → ShowableTokens (sum s)
+first_of s t h = front (sum s) (tokens.Comma ∷ (sum t ++ tokens.Right ∷ [])) h
+
+second_of : (s t : Sum) → ShowableTokens (sum s ++ tokens.Comma ∷ (sum t ++ tokens.Right ∷ [])) → ShowableTokens (sum t)
+second_of s t h = front (sum t) (tokens.Right ∷ []) (behind (sum s) (tokens.Comma ∷ (sum t ++ tokens.Right ∷ [])) h).1
 
 mutual
   factor_fits : (w : Factor) → ShowableTokens (factor w) → is_showable_value (factor_of w) ≡ true
   factor_fits (Factor.Literal n) h = literal_fits (value n) (numeral_fits n h)
   factor_fits (Factor.Element f t) h = read_fits f (meaning t) (array_fits f h.0) (meaning_fits t (front (term t) (tokens.Close ∷ []) h.1.1))
+  factor_fits (Factor.Local name) h = local_fits name h.0
   factor_fits (Factor.Group s) h = sum_fits s (front (sum s) (tokens.Right ∷ []) h.1)
+  factor_fits (Factor.Lesser s t) h = op_fits ops.Min (sum_of s) (sum_of t) (sum_fits s (first_of s t h.1.1)) (sum_fits t (second_of s t h.1.1))
+  factor_fits (Factor.Greater s t) h = op_fits ops.Max (sum_of s) (sum_of t) (sum_fits s (first_of s t h.1.1)) (sum_fits t (second_of s t h.1.1))
 
   product_fits : (w : Product) → ShowableTokens (product w) → is_showable_value (product_of w) ≡ true
   product_fits (Product.One f) h = factor_fits f h
@@ -146,6 +159,7 @@ pub written_fits : (w : WrittenLine) → ShowableTokens (line w) → IsShowable 
 written_fits (WrittenLine.Matrix name f) h = h.1.0
 written_fits (WrittenLine.Index name s) h = h.1.0
 written_fits (WrittenLine.Vector name s c) h = h.1.0
+written_fits (WrittenLine.Local name) h = h.1.0
 written_fits (WrittenLine.Range f lo hi) h =
     let b = bound_fits lo (front (term (bound lo)) (term (bound hi)) h.1.1) in
     let c = bound_fits hi (behind (term (bound lo)) (term (bound hi)) h.1.1) in
@@ -171,4 +185,5 @@ written_fits (WrittenLine.Set x at value) h =
     let b = meaning_fits at (front (term at) (tokens.Close ∷ tokens.Assign ∷ sum value) h.1.1.1) in
     let v = sum_fits value (behind (term at) (tokens.Close ∷ tokens.Assign ∷ sum value) h.1.1.1).1.1 in
     and_both (is_array x && is_showable_term (meaning at)) (is_showable_value (sum_of value)) (and_both (is_array x) (is_showable_term (meaning at)) (array_fits x h.1.0) b) v
+written_fits (WrittenLine.Keep name value) h = and_both (is_name name) (is_showable_value (sum_of value)) h.1.0 (sum_fits value h.1.1.1)
 written_fits WrittenLine.End h = refl

@@ -45,7 +45,7 @@ pick_token false t o x y = y
 
 sign_showable : (b : ℕ) → IfToken (sign b)
 sign_showable b =
-    pick_token (b == 91) tokens.Open _ tt (pick_token (b == 93) tokens.Close _ tt (pick_token (b == 40) tokens.Left _ tt (pick_token (b == 41) tokens.Right _ tt (pick_token (b == 43) tokens.Plus _ tt (pick_token (b == 45) tokens.Minus _ tt (pick_token (b == 42) tokens.Times _ tt (pick_token (b == 47) tokens.Over None tt tt)))))))
+    pick_token (b == 91) tokens.Open _ tt (pick_token (b == 93) tokens.Close _ tt (pick_token (b == 40) tokens.Left _ tt (pick_token (b == 41) tokens.Right _ tt (pick_token (b == 44) tokens.Comma _ tt (pick_token (b == 43) tokens.Plus _ tt (pick_token (b == 45) tokens.Minus _ tt (pick_token (b == 42) tokens.Times _ tt (pick_token (b == 47) tokens.Over None tt tt))))))))
 
 signed_showable : (o : Option Token) → IfToken o → ShowableMark (signed o)
 signed_showable None h = tt

@@ -13,7 +13,7 @@ use Rattle.loop_lines.specs.declared.token.Token.{Token}
 use Rattle.loop_lines.specs.declared.token.Token.TheVariants as tokens
 use Rattle.loop_lines.specs.Plain.{is_plain}
 use Rattle.loop_lines.specs.Reading.{◌>>=◌, or_else}
-use Rattle.loop_lines.specs.Words.{declaring, relating, nesting, unused, lookup, either, keyword, number, digits_token, name_form, letters_token, word_token, as_name, dotted}
+use Rattle.loop_lines.specs.Words.{declaring, relating, nesting, keeping, unused, lookup, either, keyword, number, digits_token, name_form, letters_token, word_token, as_name, dotted}
 use Rattle.loop_lines.specs.Showable.{is_part}
 use Rattle.loop_lines.proofs.Bools.{and_parts, and_both}
 use Rattle.loop_lines.proofs.ShownTexts.{known}
@@ -72,15 +72,17 @@ joined w xs ys e f = list_any-append (same_name w) xs ys ∙ or_both (list_any (
 
 unreserved : (w : List ℕ) → bytes_eq w (codes "n") ≡ false → bytes_eq w (codes "nnz") ≡ false → keyword w ≡ None → list_any (same_name w) reserved ≡ false
 unreserved w rows stored key =
-    let a = either_none (lookup w declaring) (either (lookup w relating) (either (lookup w nesting) (lookup w unused))) key in
-    let b = either_none (lookup w relating) (either (lookup w nesting) (lookup w unused)) a.1 in
-    let c = either_none (lookup w nesting) (lookup w unused) b.1 in
+    let a = either_none (lookup w declaring) (either (lookup w relating) (either (lookup w nesting) (either (lookup w keeping) (lookup w unused)))) key in
+    let b = either_none (lookup w relating) (either (lookup w nesting) (either (lookup w keeping) (lookup w unused))) a.1 in
+    let c = either_none (lookup w nesting) (either (lookup w keeping) (lookup w unused)) b.1 in
+    let d = either_none (lookup w keeping) (lookup w unused) c.1 in
     let few : list_any (same_name w) sizes ≡ false = or_both (same_name w (codes "n")) (list_any (same_name w) (codes "nnz" ∷ [])) (differs w (codes "n") rows) (or_both (same_name w (codes "nnz")) false (differs w (codes "nnz") stored) refl) in
     ap (list_any (same_name w)) reserved_parts
-    ∙ joined w (words_of declaring) (words_of relating ++ (words_of nesting ++ (sizes ++ words_of unused))) (none_has w declaring a.0)
-    (joined w (words_of relating) (words_of nesting ++ (sizes ++ words_of unused)) (none_has w relating b.0)
-    (joined w (words_of nesting) (sizes ++ words_of unused) (none_has w nesting c.0)
-    (joined w sizes (words_of unused) few (none_has w unused c.1))))
+    ∙ joined w (words_of declaring) (words_of relating ++ (words_of nesting ++ (sizes ++ (words_of keeping ++ words_of unused)))) (none_has w declaring a.0)
+    (joined w (words_of relating) (words_of nesting ++ (sizes ++ (words_of keeping ++ words_of unused))) (none_has w relating b.0)
+    (joined w (words_of nesting) (sizes ++ (words_of keeping ++ words_of unused)) (none_has w nesting c.0)
+    (joined w sizes (words_of keeping ++ words_of unused) few
+    (joined w (words_of keeping) (words_of unused) (none_has w keeping d.0) (none_has w unused d.1)))))
 
 -- ---- names
 

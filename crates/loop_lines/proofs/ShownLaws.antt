@@ -76,6 +76,7 @@ begins : (l : Line) → is_comment (after_blanks (shown_line l)) ≡ false
 begins (forms.Matrix name form) = refl
 begins (forms.Index name size) = refl
 begins (forms.Vector name size source) = refl
+begins (forms.Local name) = refl
 begins (forms.Prop (props.Range f lo hi)) = refl
 begins (forms.Prop (props.Rising p)) = refl
 begins (forms.Prop (props.Strict p)) = refl
@@ -89,6 +90,7 @@ begins (forms.Loop name) = refl
 begins (forms.For name lo hi) = refl
 begins (forms.When rel left right) = refl
 begins (forms.Set array at value) = refl
+begins (forms.Keep name value) = refl
 begins forms.End = refl
 
 -- ---- the text of a line reads back

@@ -119,6 +119,9 @@ vector_of name s c e =
       shows = subst (λ (ts : List Token). Shows (shown_line (lines.Vector name s c)) (tokens.Word keys.Vector ∷ tokens.Name name ∷ (ts ++ source c ∷ []))) (append-nil (size s)) all;
     }
 
+local_word : Closed (codes "local ") (tokens.Word keys.Local ∷ [])
+local_word = record { reads = λ s. refl }
+
 -- ---- properties
 
 range_word : Closed (codes "range ") (tokens.Word keys.Range ∷ [])
@@ -249,13 +252,25 @@ set_of x at value e =
       shows = subst (λ (ts : List Token). Shows (shown_line (lines.Set x at value)) (tokens.Word keys.Set ∷ array x ∷ tokens.Open ∷ ts)) (regrouped (term b.written) (sum v.added)) all;
     }
 
+keep_of : (name : List ℕ) (value : NamedExpr) → is_showable (lines.Keep name value) ≡ true → LineOf (shown_line (lines.Keep name value)) (lines.Keep name value)
+keep_of name value e =
+    let both = and_parts (is_name name) (is_showable_value value) e in
+    let v = value_of value both.1 in
+    record {
+      written = WrittenLine.Keep name v.added;
+      means = ap (λ (w : NamedExpr). lines.Keep name w) v.added_means;
+      shows = ((set_word ▸ name_shows name both.0) ◂ assign_sign) ▸ v.added_shows;
+    }
+
 pub written_of : (l : Line) → IsShowable l → LineOf (shown_line l) l
 written_of (lines.Matrix name f) e = matrix_of name f e
 written_of (lines.Index name s) e = index_of name s e
 written_of (lines.Vector name s c) e = vector_of name s c e
+written_of (lines.Local name) e = record { written = WrittenLine.Local name; means = refl; shows = local_word ▸ name_shows name e }
 written_of (lines.Prop p) e = prop_of p e
 written_of (lines.Loop name) e = record { written = WrittenLine.Loop name; means = refl; shows = loop_word ▸ name_shows name e }
 written_of (lines.For name lo hi) e = for_of name lo hi e
 written_of (lines.When r left right) e = when_of r left right e
 written_of (lines.Set x at value) e = set_of x at value e
+written_of (lines.Keep name value) e = keep_of name value e
 written_of lines.End e = record { written = WrittenLine.End; means = refl; shows = word (codes "end") (tokens.Word keys.End) refl (omega arith) refl }

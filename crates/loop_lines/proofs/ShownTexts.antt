@@ -63,7 +63,7 @@ sign_after a b xs ys h k = record { reads = λ s. joined a b xs ys s (h.reads (b
 pub closed_after : (a b : List ℕ) (xs ys : List Token) → Closed a xs → Closed b ys → Closed (a ++ b) (xs ++ ys)
 closed_after a b xs ys h k = record { reads = λ s. joined a b xs ys s (h.reads (b ++ s)) (k.reads s) }
 
-as_closed : (b : List ℕ) (ys : List Token) → Sign b ys → Closed b ys
+pub as_closed : (b : List ℕ) (ys : List Token) → Sign b ys → Closed b ys
 as_closed b ys h = record { reads = h.reads }
 
 infixl 65 ◌▸◌

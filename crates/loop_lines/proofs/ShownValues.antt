@@ -7,6 +7,9 @@ use Rattle.std.proofs.lemmas.Bool.Decides.{nat_tests}
 use denote.Hole.Carrier as hole
 use Rattle.loop_core.specs.declared.nest.Op.{Op}
 use Rattle.loop_core.specs.declared.nest.Op.TheVariants as ops
+use Rattle.loop_core.specs.IsNest.{is_literal}
+use Rattle.loop_core.specs.Names.{is_name}
+use Rattle.loop_lines.specs.declared.token.Keyword.TheVariants as keys
 use Rattle.loop_lines.specs.declared.token.Token.{Token}
 use Rattle.loop_lines.specs.declared.token.Token.TheVariants as tokens
 use Rattle.loop_lines.specs.declared.tree.ArrayName.{ArrayName}
@@ -17,11 +20,11 @@ use Rattle.loop_lines.specs.declared.tree.NamedExpr.TheOpen.{NamedExpr-F}
 use Rattle.loop_lines.specs.declared.tree.NamedExpr.TheViews.{roll-NamedExpr}
 use Rattle.loop_lines.specs.declared.tree.NamedExpr.TheFolds.{ind-NamedExpr, fold-roll-NamedExpr, map-NamedExpr}
 use Rattle.loop_lines.specs.Exprs.{Factor, Product, Sum, factor, product, sum, factor_of, product_of, sum_of}
-use Rattle.loop_lines.specs.Shown.{shown_op, shown_entry, shown_term, shown_value_step, shown_value}
-use Rattle.loop_lines.specs.Showable.{is_array, is_literal, is_showable_term, showable_value_step, is_showable_value}
+use Rattle.loop_lines.specs.Shown.{shown_call, shown_entry, shown_term, shown_value_step, shown_value}
+use Rattle.loop_lines.specs.Showable.{is_array, is_showable_term, showable_value_step, is_showable_value}
 use Rattle.loop_lines.proofs.Bools.{and_parts}
-use Rattle.loop_lines.proofs.ShownTexts.{Shows, Closed, Sign, ◌▸◌, ◌◂◌, as_shows}
-use Rattle.loop_lines.proofs.ShownWords.{numeral_of, value_is, decimal_shows}
+use Rattle.loop_lines.proofs.ShownTexts.{Shows, Closed, Sign, as_closed, ◌▸◌, ◌◂◌, as_shows, word}
+use Rattle.loop_lines.proofs.ShownWords.{name_shows, numeral_of, value_is, decimal_shows}
 use Rattle.loop_lines.proofs.ShownTerms.{below, entry_shows, term_of}
 
 -- what an expression's text is where at least rank 0, 1 or 2 is asked
@@ -52,41 +55,57 @@ by_factor e text f means h is = record {
 
 -- ---- operators
 
-abbrev op_token : Op → Token
-op_token ops.Add = tokens.Plus
-op_token ops.Sub = tokens.Minus
-op_token ops.Mul = tokens.Times
-op_token ops.Quot = tokens.Over
+plus_between : Sign (codes " + ") (tokens.Plus ∷ [])
+plus_between = record { reads = λ s. refl; begins = λ s. refl }
 
-op_sign : (op : Op) → Sign (shown_op op) (op_token op ∷ [])
-op_sign ops.Add = record { reads = λ s. refl; begins = λ s. refl }
-op_sign ops.Sub = record { reads = λ s. refl; begins = λ s. refl }
-op_sign ops.Mul = record { reads = λ s. refl; begins = λ s. refl }
-op_sign ops.Quot = record { reads = λ s. refl; begins = λ s. refl }
+minus_between : Sign (codes " - ") (tokens.Minus ∷ [])
+minus_between = record { reads = λ s. refl; begins = λ s. refl }
 
-left_sign : Closed (codes "(") (tokens.Left ∷ [])
-left_sign = record { reads = λ s. refl }
+times_between : Sign (codes " * ") (tokens.Times ∷ [])
+times_between = record { reads = λ s. refl; begins = λ s. refl }
+
+over_between : Sign (codes " / ") (tokens.Over ∷ [])
+over_between = record { reads = λ s. refl; begins = λ s. refl }
+
+left_sign : Sign (codes "(") (tokens.Left ∷ [])
+left_sign = record { reads = λ s. refl; begins = λ s. refl }
 
 right_sign : Sign (codes ")") (tokens.Right ∷ [])
 right_sign = record { reads = λ s. refl; begins = λ s. refl }
 
-abbrev bare_text : Op → List ℕ → List ℕ → List ℕ
-bare_text op a b = a ++ shown_op op ++ b ++ []
+comma_sign : Sign (codes ", ") (tokens.Comma ∷ [])
+comma_sign = record { reads = λ s. refl; begins = λ s. refl }
 
-abbrev group_text : Op → List ℕ → List ℕ → List ℕ
-group_text op a b = codes "(" ++ a ++ shown_op op ++ b ++ codes ")"
+min_word : Shows (codes "min") (tokens.Word keys.Min ∷ [])
+min_word = word (codes "min") (tokens.Word keys.Min) refl (omega arith) refl
 
-bare_shows : (op : Op) (a b : List ℕ) (xs ys : List Token) → Shows a xs → Shows b ys → Shows (bare_text op a b) (xs ++ op_token op ∷ ys)
-bare_shows op a b xs ys h k =
-    let all : Shows (a ++ shown_op op ++ b) ((xs ++ (op_token op ∷ [])) ++ ys) = (h ◂ op_sign op) ▸ k in
-    subst (λ (w : List ℕ). Shows w (xs ++ op_token op ∷ ys)) (sym (append-nil (a ++ shown_op op ++ b)))
-    (subst (Shows (a ++ shown_op op ++ b)) (append_assoc xs (op_token op ∷ []) ys) all)
+max_word : Shows (codes "max") (tokens.Word keys.Max ∷ [])
+max_word = word (codes "max") (tokens.Word keys.Max) refl (omega arith) refl
 
-group_shows : (op : Op) (a b : List ℕ) (xs ys : List Token) → Shows a xs → Shows b ys → Shows (group_text op a b) (tokens.Left ∷ ((xs ++ op_token op ∷ ys) ++ tokens.Right ∷ []))
-group_shows op a b xs ys h k =
-    let all : Closed (group_text op a b) (tokens.Left ∷ (((xs ++ (op_token op ∷ [])) ++ ys) ++ tokens.Right ∷ [])) = (((left_sign ▸ h) ◂ op_sign op) ▸ k) ◂ right_sign in
-    subst (Shows (group_text op a b)) (ap (λ (l : List Token). tokens.Left ∷ (l ++ tokens.Right ∷ [])) (append_assoc xs (op_token op ∷ []) ys))
-    (as_shows (group_text op a b) (tokens.Left ∷ (((xs ++ (op_token op ∷ [])) ++ ys) ++ tokens.Right ∷ [])) all)
+abbrev bare_text : List ℕ → List ℕ → List ℕ → List ℕ
+bare_text sign a b = a ++ sign ++ b ++ []
+
+abbrev group_text : List ℕ → List ℕ → List ℕ → List ℕ
+group_text sign a b = codes "(" ++ a ++ sign ++ b ++ codes ")"
+
+bare_shows : (sign : List ℕ) (t : Token) (a b : List ℕ) (xs ys : List Token) → Sign sign (t ∷ []) → Shows a xs → Shows b ys → Shows (bare_text sign a b) (xs ++ t ∷ ys)
+bare_shows sign t a b xs ys g h k =
+    let all : Shows (a ++ sign ++ b) ((xs ++ (t ∷ [])) ++ ys) = (h ◂ g) ▸ k in
+    subst (λ (w : List ℕ). Shows w (xs ++ t ∷ ys)) (sym (append-nil (a ++ sign ++ b)))
+    (subst (Shows (a ++ sign ++ b)) (append_assoc xs (t ∷ []) ys) all)
+
+group_shows : (sign : List ℕ) (t : Token) (a b : List ℕ) (xs ys : List Token) → Sign sign (t ∷ []) → Shows a xs → Shows b ys → Shows (group_text sign a b) (tokens.Left ∷ ((xs ++ t ∷ ys) ++ tokens.Right ∷ []))
+group_shows sign t a b xs ys g h k =
+    let all : Closed (group_text sign a b) (tokens.Left ∷ (((xs ++ (t ∷ [])) ++ ys) ++ tokens.Right ∷ [])) = (((as_closed (codes "(") (tokens.Left ∷ []) left_sign ▸ h) ◂ g) ▸ k) ◂ right_sign in
+    subst (Shows (group_text sign a b)) (ap (λ (l : List Token). tokens.Left ∷ (l ++ tokens.Right ∷ [])) (append_assoc xs (t ∷ []) ys))
+    (as_shows (group_text sign a b) (tokens.Left ∷ (((xs ++ (t ∷ [])) ++ ys) ++ tokens.Right ∷ [])) all)
+
+call_shows : (name : List ℕ) (t : Token) (a b : List ℕ) (xs ys : List Token) → Shows name (t ∷ []) → Shows a xs → Shows b ys → Shows (shown_call name a b) (t ∷ tokens.Left ∷ (xs ++ tokens.Comma ∷ (ys ++ tokens.Right ∷ [])))
+call_shows name t a b xs ys g h k =
+    let all : Closed (shown_call name a b) (t ∷ tokens.Left ∷ (((xs ++ (tokens.Comma ∷ [])) ++ ys) ++ tokens.Right ∷ [])) = ((((g ◂ left_sign) ▸ h) ◂ comma_sign) ▸ k) ◂ right_sign in
+    let same : ((xs ++ (tokens.Comma ∷ [])) ++ ys) ++ tokens.Right ∷ [] ≡ xs ++ tokens.Comma ∷ (ys ++ tokens.Right ∷ []) = append_assoc (xs ++ tokens.Comma ∷ []) ys (tokens.Right ∷ []) ∙ append_assoc xs (tokens.Comma ∷ []) (ys ++ tokens.Right ∷ []) in
+    subst (Shows (shown_call name a b)) (ap (λ (l : List Token). t ∷ tokens.Left ∷ l) same)
+    (as_shows (shown_call name a b) (t ∷ tokens.Left ∷ (((xs ++ (tokens.Comma ∷ [])) ++ ys) ++ tokens.Right ∷ [])) all)
 
 pub rolled_op : (op : Op) (l r : NamedExpr) → roll-NamedExpr (NamedExpr-F.Op op l r) ≡ exprs.Op op l r
 unfolding roll-NamedExpr hole.roll
@@ -95,6 +114,10 @@ rolled_op op l r = refl
 pub rolled_literal : (z : ℤ) → roll-NamedExpr (NamedExpr-F.Lit z) ≡ exprs.Lit z
 unfolding roll-NamedExpr hole.roll
 rolled_literal z = refl
+
+pub rolled_local : (name : List ℕ) → roll-NamedExpr (NamedExpr-F.Local name) ≡ exprs.Local name
+unfolding roll-NamedExpr hole.roll
+rolled_local name = refl
 
 pub rolled_read : (f : ArrayName) (t : NamedTerm) → roll-NamedExpr (NamedExpr-F.Read f t) ≡ exprs.Read f t
 unfolding roll-NamedExpr hole.roll
@@ -107,17 +130,17 @@ text_is : (x : NamedExpr-F NamedExpr) (least : ℕ) → shown_value (roll-NamedE
 text_is x least = ap (λ (g : ℕ → List ℕ). g least) (fold-roll-NamedExpr (ℕ → List ℕ) shown_value_step x)
 
 -- a sum or a difference
-by_sum : (op : Op) (e l r : NamedExpr) (w : Sum) (h : IsShown l) (k : IsShown r) → e ≡ exprs.Op op l r
-    → sum w ≡ sum h.added ++ op_token op ∷ product k.multiplied → sum_of w ≡ exprs.Op op (sum_of h.added) (product_of k.multiplied)
-    → shown_value e 0 ≡ bare_text op (shown_value l 0) (shown_value r 1) → ((n : ℕ) → shown_value e (n + 1) ≡ group_text op (shown_value l 0) (shown_value r 1)) → IsShown e
-by_sum op e l r w h k is tokens_are means_are bare grouped =
+by_sum : (op : Op) (sign : List ℕ) (t : Token) (e l r : NamedExpr) (w : Sum) (h : IsShown l) (k : IsShown r) → Sign sign (t ∷ []) → e ≡ exprs.Op op l r
+    → sum w ≡ sum h.added ++ t ∷ product k.multiplied → sum_of w ≡ exprs.Op op (sum_of h.added) (product_of k.multiplied)
+    → shown_value e 0 ≡ bare_text sign (shown_value l 0) (shown_value r 1) → ((n : ℕ) → shown_value e (n + 1) ≡ group_text sign (shown_value l 0) (shown_value r 1)) → IsShown e
+by_sum op sign t e l r w h k g is tokens_are means_are bare grouped =
     let means : sum_of w ≡ e = means_are ∙ both_means op (sum_of h.added) l (product_of k.multiplied) r h.added_means k.multiplied_means ∙ sym is in
-    let inner = group_shows op (shown_value l 0) (shown_value r 1) (sum h.added) (product k.multiplied) h.added_shows k.multiplied_shows in
-    let group : Shows (group_text op (shown_value l 0) (shown_value r 1)) (factor (Factor.Group w)) = subst (λ (ts : List Token). Shows (group_text op (shown_value l 0) (shown_value r 1)) (tokens.Left ∷ (ts ++ tokens.Right ∷ []))) (sym tokens_are) inner in
+    let inner = group_shows sign t (shown_value l 0) (shown_value r 1) (sum h.added) (product k.multiplied) g h.added_shows k.multiplied_shows in
+    let group : Shows (group_text sign (shown_value l 0) (shown_value r 1)) (factor (Factor.Group w)) = subst (λ (ts : List Token). Shows (group_text sign (shown_value l 0) (shown_value r 1)) (tokens.Left ∷ (ts ++ tokens.Right ∷ []))) (sym tokens_are) inner in
     record {
       added = w;
       added_means = means;
-      added_shows = subst (λ (x : List ℕ). Shows x (sum w)) (sym bare) (subst (Shows (bare_text op (shown_value l 0) (shown_value r 1))) (sym tokens_are) (bare_shows op (shown_value l 0) (shown_value r 1) (sum h.added) (product k.multiplied) h.added_shows k.multiplied_shows));
+      added_shows = subst (λ (x : List ℕ). Shows x (sum w)) (sym bare) (subst (Shows (bare_text sign (shown_value l 0) (shown_value r 1))) (sym tokens_are) (bare_shows sign t (shown_value l 0) (shown_value r 1) (sum h.added) (product k.multiplied) g h.added_shows k.multiplied_shows));
       multiplied = Product.One (Factor.Group w);
       multiplied_means = means;
       multiplied_shows = subst (λ (x : List ℕ). Shows x (factor (Factor.Group w))) (sym (grouped 0)) group;
@@ -127,15 +150,15 @@ by_sum op e l r w h k is tokens_are means_are bare grouped =
     }
 
 -- a product or a quotient
-by_product : (op : Op) (e l r : NamedExpr) (w : Product) (h : IsShown l) (k : IsShown r) → e ≡ exprs.Op op l r
-    → product w ≡ product h.multiplied ++ op_token op ∷ factor k.alone → product_of w ≡ exprs.Op op (product_of h.multiplied) (factor_of k.alone)
-    → shown_value e 0 ≡ bare_text op (shown_value l 1) (shown_value r 2) → shown_value e 1 ≡ bare_text op (shown_value l 1) (shown_value r 2)
-    → shown_value e 2 ≡ group_text op (shown_value l 1) (shown_value r 2) → IsShown e
-by_product op e l r w h k is tokens_are means_are bare lower grouped =
+by_product : (op : Op) (sign : List ℕ) (t : Token) (e l r : NamedExpr) (w : Product) (h : IsShown l) (k : IsShown r) → Sign sign (t ∷ []) → e ≡ exprs.Op op l r
+    → product w ≡ product h.multiplied ++ t ∷ factor k.alone → product_of w ≡ exprs.Op op (product_of h.multiplied) (factor_of k.alone)
+    → shown_value e 0 ≡ bare_text sign (shown_value l 1) (shown_value r 2) → shown_value e 1 ≡ bare_text sign (shown_value l 1) (shown_value r 2)
+    → shown_value e 2 ≡ group_text sign (shown_value l 1) (shown_value r 2) → IsShown e
+by_product op sign t e l r w h k g is tokens_are means_are bare lower grouped =
     let means : product_of w ≡ e = means_are ∙ both_means op (product_of h.multiplied) l (factor_of k.alone) r h.multiplied_means k.alone_means ∙ sym is in
-    let plain : Shows (bare_text op (shown_value l 1) (shown_value r 2)) (product w) = subst (Shows (bare_text op (shown_value l 1) (shown_value r 2))) (sym tokens_are) (bare_shows op (shown_value l 1) (shown_value r 2) (product h.multiplied) (factor k.alone) h.multiplied_shows k.alone_shows) in
-    let inner = group_shows op (shown_value l 1) (shown_value r 2) (product h.multiplied) (factor k.alone) h.multiplied_shows k.alone_shows in
-    let group : Shows (group_text op (shown_value l 1) (shown_value r 2)) (factor (Factor.Group (Sum.Alone w))) = subst (λ (ts : List Token). Shows (group_text op (shown_value l 1) (shown_value r 2)) (tokens.Left ∷ (ts ++ tokens.Right ∷ []))) (sym tokens_are) inner in
+    let plain : Shows (bare_text sign (shown_value l 1) (shown_value r 2)) (product w) = subst (Shows (bare_text sign (shown_value l 1) (shown_value r 2))) (sym tokens_are) (bare_shows sign t (shown_value l 1) (shown_value r 2) (product h.multiplied) (factor k.alone) g h.multiplied_shows k.alone_shows) in
+    let inner = group_shows sign t (shown_value l 1) (shown_value r 2) (product h.multiplied) (factor k.alone) g h.multiplied_shows k.alone_shows in
+    let group : Shows (group_text sign (shown_value l 1) (shown_value r 2)) (factor (Factor.Group (Sum.Alone w))) = subst (λ (ts : List Token). Shows (group_text sign (shown_value l 1) (shown_value r 2)) (tokens.Left ∷ (ts ++ tokens.Right ∷ []))) (sym tokens_are) inner in
     record {
       added = Sum.Alone w;
       added_means = means;
@@ -147,6 +170,16 @@ by_product op e l r w h k is tokens_are means_are bare lower grouped =
       alone_means = means;
       alone_shows = subst (λ (x : List ℕ). Shows x (factor (Factor.Group (Sum.Alone w)))) (sym grouped) group;
     }
+
+-- the lesser or the greater
+by_call : (op : Op) (name : List ℕ) (t : Token) (e l r : NamedExpr) (f : Factor) (h : IsShown l) (k : IsShown r) → Shows name (t ∷ []) → e ≡ exprs.Op op l r
+    → factor f ≡ t ∷ tokens.Left ∷ (sum h.added ++ tokens.Comma ∷ (sum k.added ++ tokens.Right ∷ [])) → factor_of f ≡ exprs.Op op (sum_of h.added) (sum_of k.added)
+    → ((least : ℕ) → shown_value e least ≡ shown_call name (shown_value l 0) (shown_value r 0)) → IsShown e
+by_call op name t e l r f h k g is tokens_are means_are text =
+    by_factor e (shown_call name (shown_value l 0) (shown_value r 0)) f
+    (means_are ∙ both_means op (sum_of h.added) l (sum_of k.added) r h.added_means k.added_means ∙ sym is)
+    (subst (Shows (shown_call name (shown_value l 0) (shown_value r 0))) (sym tokens_are) (call_shows name t (shown_value l 0) (shown_value r 0) (sum h.added) (sum k.added) g h.added_shows k.added_shows))
+    text
 
 -- ---- by the shape of an expression
 
@@ -162,22 +195,33 @@ higher n = grind (arith, nat_tests)
 op_case : (op : Op) (l r : NamedExpr) → IsShown l → IsShown r → IsShown (roll-NamedExpr (NamedExpr-F.Op op l r))
 op_case ops.Add l r h k =
     let x : NamedExpr-F NamedExpr = NamedExpr-F.Op ops.Add l r in
-    by_sum ops.Add (roll-NamedExpr x) l r (Sum.Plus h.added k.multiplied) h k (rolled_op ops.Add l r) refl refl (text_is x 0) (λ n. text_is x (n + 1) ∙ rw (higher n) refl)
+    by_sum ops.Add (codes " + ") tokens.Plus (roll-NamedExpr x) l r (Sum.Plus h.added k.multiplied) h k plus_between (rolled_op ops.Add l r) refl refl (text_is x 0) (λ n. text_is x (n + 1) ∙ rw (higher n) refl)
 op_case ops.Sub l r h k =
     let x : NamedExpr-F NamedExpr = NamedExpr-F.Op ops.Sub l r in
-    by_sum ops.Sub (roll-NamedExpr x) l r (Sum.Minus h.added k.multiplied) h k (rolled_op ops.Sub l r) refl refl (text_is x 0) (λ n. text_is x (n + 1) ∙ rw (higher n) refl)
+    by_sum ops.Sub (codes " - ") tokens.Minus (roll-NamedExpr x) l r (Sum.Minus h.added k.multiplied) h k minus_between (rolled_op ops.Sub l r) refl refl (text_is x 0) (λ n. text_is x (n + 1) ∙ rw (higher n) refl)
 op_case ops.Mul l r h k =
     let x : NamedExpr-F NamedExpr = NamedExpr-F.Op ops.Mul l r in
-    by_product ops.Mul (roll-NamedExpr x) l r (Product.Times h.multiplied k.alone) h k (rolled_op ops.Mul l r) refl refl (text_is x 0) (text_is x 1) (text_is x 2)
+    by_product ops.Mul (codes " * ") tokens.Times (roll-NamedExpr x) l r (Product.Times h.multiplied k.alone) h k times_between (rolled_op ops.Mul l r) refl refl (text_is x 0) (text_is x 1) (text_is x 2)
 op_case ops.Quot l r h k =
     let x : NamedExpr-F NamedExpr = NamedExpr-F.Op ops.Quot l r in
-    by_product ops.Quot (roll-NamedExpr x) l r (Product.Over h.multiplied k.alone) h k (rolled_op ops.Quot l r) refl refl (text_is x 0) (text_is x 1) (text_is x 2)
+    by_product ops.Quot (codes " / ") tokens.Over (roll-NamedExpr x) l r (Product.Over h.multiplied k.alone) h k over_between (rolled_op ops.Quot l r) refl refl (text_is x 0) (text_is x 1) (text_is x 2)
+op_case ops.Min l r h k =
+    let x : NamedExpr-F NamedExpr = NamedExpr-F.Op ops.Min l r in
+    by_call ops.Min (codes "min") (tokens.Word keys.Min) (roll-NamedExpr x) l r (Factor.Lesser h.added k.added) h k min_word (rolled_op ops.Min l r) refl refl (text_is x)
+op_case ops.Max l r h k =
+    let x : NamedExpr-F NamedExpr = NamedExpr-F.Op ops.Max l r in
+    by_call ops.Max (codes "max") (tokens.Word keys.Max) (roll-NamedExpr x) l r (Factor.Greater h.added k.added) h k max_word (rolled_op ops.Max l r) refl refl (text_is x)
 
 literal_case : (z : ℤ) → is_literal z ≡ true → IsShown (roll-NamedExpr (NamedExpr-F.Lit z))
 literal_case (negsuc n) e = absurd cc
 literal_case (pos n) e =
     let x : NamedExpr-F NamedExpr = NamedExpr-F.Lit (pos n) in
     by_factor (roll-NamedExpr x) (decimal n) (Factor.Literal (numeral_of n)) (ap (λ (k : ℕ). exprs.Lit (pos k)) (value_is n) ∙ sym (rolled_literal (pos n))) (decimal_shows n (below n e)) (text_is x)
+
+local_case : (name : List ℕ) → is_name name ≡ true → IsShown (roll-NamedExpr (NamedExpr-F.Local name))
+local_case name e =
+    let x : NamedExpr-F NamedExpr = NamedExpr-F.Local name in
+    by_factor (roll-NamedExpr x) name (Factor.Local name) (sym (rolled_local name)) (name_shows name e) (text_is x)
 
 read_case : (f : ArrayName) (t : NamedTerm) → is_array f ≡ true → is_showable_term t ≡ true → IsShown (roll-NamedExpr (NamedExpr-F.Read f t))
 read_case f t e g =
@@ -191,6 +235,7 @@ value_case (NamedExpr-F.Lit z) e = literal_case z (sym (fold-roll-NamedExpr Bool
 value_case (NamedExpr-F.Read f t) e =
     let both = and_parts (is_array f) (is_showable_term t) (sym (fold-roll-NamedExpr Bool showable_value_step (NamedExpr-F.Read f t)) ∙ e) in
     read_case f t both.0 both.1
+value_case (NamedExpr-F.Local name) e = local_case name (sym (fold-roll-NamedExpr Bool showable_value_step (NamedExpr-F.Local name)) ∙ e)
 value_case (NamedExpr-F.Op op l r) e =
     let both = and_parts (is_showable_value l.0) (is_showable_value r.0) (sym (fold-roll-NamedExpr Bool showable_value_step (NamedExpr-F.Op op l.0 r.0)) ∙ e) in
     op_case op l.0 r.0 (l.1 both.0) (r.1 both.1)

@@ -16,7 +16,7 @@ use Rattle.loop_lines.specs.declared.token.Token.TheVariants as tokens
 use Rattle.loop_lines.specs.declared.tree.ArrayName.{ArrayName}
 use Rattle.loop_lines.specs.declared.tree.ArrayName.TheVariants.{Own, Dotted}
 use Rattle.loop_lines.specs.Plain.{is_plain}
-use Rattle.loop_lines.specs.Words.{declaring, relating, nesting, unused, lookup, keyword, digits_token, name_form, letters_token, word_token, dotted}
+use Rattle.loop_lines.specs.Words.{declaring, relating, nesting, keeping, unused, lookup, keyword, digits_token, name_form, letters_token, word_token, dotted}
 use Rattle.loop_lines.specs.Grammar.{Numeral, numeral, array, value}
 use Rattle.loop_lines.specs.Shown.{shown_array}
 use Rattle.loop_lines.specs.Showable.{is_part, is_array}
@@ -52,7 +52,7 @@ words_of es = map (λ e. e.0) es
 abbrev pub sizes : List (List ℕ)
 sizes = codes "n" ∷ codes "nnz" ∷ []
 
-pub reserved_parts : reserved ≡ words_of declaring ++ (words_of relating ++ (words_of nesting ++ (sizes ++ words_of unused)))
+pub reserved_parts : reserved ≡ words_of declaring ++ (words_of relating ++ (words_of nesting ++ (sizes ++ (words_of keeping ++ words_of unused))))
 reserved_parts = refl
 
 split : (w : List ℕ) (xs ys : List (List ℕ)) → list_any (same_name w) (xs ++ ys) ≡ false → (list_any (same_name w) xs ≡ false) × (list_any (same_name w) ys ≡ false)
@@ -65,16 +65,17 @@ record NoKeyword (w : List ℕ) : Type 0 where
 
 no_keyword : (w : List ℕ) → list_any (same_name w) reserved ≡ false → NoKeyword w
 no_keyword w e =
-    let a = split w (words_of declaring) (words_of relating ++ (words_of nesting ++ (sizes ++ words_of unused))) e in
-    let b = split w (words_of relating) (words_of nesting ++ (sizes ++ words_of unused)) a.1 in
-    let c = split w (words_of nesting) (sizes ++ words_of unused) b.1 in
-    let d = split w sizes (words_of unused) c.1 in
+    let a = split w (words_of declaring) (words_of relating ++ (words_of nesting ++ (sizes ++ (words_of keeping ++ words_of unused)))) e in
+    let b = split w (words_of relating) (words_of nesting ++ (sizes ++ (words_of keeping ++ words_of unused))) a.1 in
+    let c = split w (words_of nesting) (sizes ++ (words_of keeping ++ words_of unused)) b.1 in
+    let d = split w sizes (words_of keeping ++ words_of unused) c.1 in
+    let f = split w (words_of keeping) (words_of unused) d.1 in
     let s = or_parts (same_name w (codes "n")) (list_any (same_name w) (codes "nnz" ∷ [])) d.0 in
     let t = or_parts (same_name w (codes "nnz")) (list_any (same_name w) []) s.1 in
     record {
       rows = other w (codes "n") s.0;
       stored = other w (codes "nnz") t.0;
-      key = rw (none_among w declaring a.0, none_among w relating b.0, none_among w nesting c.0, none_among w unused d.1) refl;
+      key = rw (none_among w declaring a.0, none_among w relating b.0, none_among w nesting c.0, none_among w keeping f.0, none_among w unused f.1) refl;
     }
 
 record NameParts (w : List ℕ) : Type 0 where

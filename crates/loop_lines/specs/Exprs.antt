@@ -1,18 +1,23 @@
 -- The grammar of expressions: sums of products of factors, each grouped from the left.
-use Rattle.std.specs.Prelude.{◌≡◌, pos, List, [], ◌∷◌, ◌++◌}
+use Rattle.std.specs.Prelude.{◌≡◌, ℕ, pos, List, [], ◌∷◌, ◌++◌}
 use Rattle.loop_core.specs.declared.nest.Op.TheVariants as ops
 use Rattle.loop_lines.specs.declared.tree.NamedExpr.{NamedExpr}
 use Rattle.loop_lines.specs.declared.tree.NamedExpr.TheVariants as exprs
+use Rattle.loop_lines.specs.declared.token.Keyword.TheVariants as keys
 use Rattle.loop_lines.specs.declared.token.Token.{Token}
 use Rattle.loop_lines.specs.declared.token.Token.TheVariants as tokens
 use Rattle.loop_lines.specs.declared.tree.ArrayName.{ArrayName}
 use Rattle.loop_lines.specs.Grammar.{Numeral, Written, numeral, array, term, value, meaning}
 
+-- a factor is a number, an element of an array, a name alone, a sum in parentheses, or the lesser or the greater of two sums
 mutual
   pub data Factor : Type 0 where
     Literal : Numeral → Factor
     Element : ArrayName → Written → Factor
+    Local : List ℕ → Factor
     Group : Sum → Factor
+    Lesser : Sum → Sum → Factor
+    Greater : Sum → Sum → Factor
 
   pub data Product : Type 0 where
     One : Factor → Product
@@ -28,7 +33,10 @@ abbrev mutual
   pub factor : Factor → List Token
   factor (Literal n) = numeral n
   factor (Element f t) = array f ∷ tokens.Open ∷ (term t ++ tokens.Close ∷ [])
+  factor (Local name) = tokens.Name name ∷ []
   factor (Group s) = tokens.Left ∷ (sum s ++ tokens.Right ∷ [])
+  factor (Lesser s t) = tokens.Word keys.Min ∷ tokens.Left ∷ (sum s ++ tokens.Comma ∷ (sum t ++ tokens.Right ∷ []))
+  factor (Greater s t) = tokens.Word keys.Max ∷ tokens.Left ∷ (sum s ++ tokens.Comma ∷ (sum t ++ tokens.Right ∷ []))
 
   pub product : Product → List Token
   product (One f) = factor f
@@ -46,7 +54,10 @@ abbrev mutual
   pub factor_of : Factor → NamedExpr
   factor_of (Literal n) = exprs.Lit (pos (value n))
   factor_of (Element f t) = exprs.Read f (meaning t)
+  factor_of (Local name) = exprs.Local name
   factor_of (Group s) = sum_of s
+  factor_of (Lesser s t) = exprs.Op ops.Min (sum_of s) (sum_of t)
+  factor_of (Greater s t) = exprs.Op ops.Max (sum_of s) (sum_of t)
 
   pub product_of : Product → NamedExpr
   product_of (One f) = factor_of f

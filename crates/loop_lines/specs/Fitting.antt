@@ -30,6 +30,7 @@ abbrev pub heading_after : Bool → Line → Option Place
 heading_after false (lines.Matrix name form) = Some (Heading true)
 heading_after matrix (lines.Index name size) = Some (Heading matrix)
 heading_after matrix (lines.Vector name size source) = Some (Heading matrix)
+heading_after matrix (lines.Local name) = Some (Heading matrix)
 heading_after matrix (lines.Prop prop) = Some (Heading matrix)
 heading_after true (lines.Loop name) = Some (Inside 0)
 heading_after _ _ = None
@@ -39,6 +40,7 @@ abbrev pub body_after : ℕ → Line → Option Place
 body_after blocks (lines.For name lo hi) = Some (Inside (blocks + 1))
 body_after blocks (lines.When rel left right) = Some (Inside (blocks + 1))
 body_after blocks (lines.Set array at value) = Some (Inside blocks)
+body_after blocks (lines.Keep name value) = Some (Inside blocks)
 body_after zero lines.End = Some Behind
 body_after (suc k) lines.End = Some (Inside k)
 body_after _ _ = None

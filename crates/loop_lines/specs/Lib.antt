@@ -8,6 +8,7 @@ pub mod TokenReading
 pub mod Lines
 pub mod LineReading
 pub mod Fitting
+pub mod TextLines
 pub mod Plain
 pub mod Shown
 pub mod Showable

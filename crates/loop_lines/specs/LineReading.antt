@@ -20,7 +20,7 @@ use Rattle.loop_lines.specs.declared.line.NamedProp.{NamedProp}
 use Rattle.loop_lines.specs.declared.line.NamedProp.TheVariants as props
 use Rattle.loop_lines.specs.declared.line.Line.{Line}
 use Rattle.loop_lines.specs.declared.line.Line.TheVariants as lines
-use Rattle.loop_lines.specs.Reading.{◌>>=◌, array_at, entry_at, close_at, zero_at, constant, shifted_at, term_at}
+use Rattle.loop_lines.specs.Reading.{◌>>=◌, or_else, array_at, entry_at, close_at, zero_at, constant, shifted_at, term_at}
 use Rattle.loop_lines.specs.ExprReading.{whole_at}
 
 abbrev pub end_at : List Token → Option (Unit {0})
@@ -94,6 +94,9 @@ last_source_at ts = source_at ts >>= λ c. end_at c.1 >>= λ u. Some c.0
 abbrev pub vector_at : List Token → Option Line
 vector_at ts = name_at ts >>= λ a. size_at a.1 >>= λ s. last_source_at s.1 >>= λ c. Some (lines.Vector a.0 s.0 c)
 
+abbrev pub local_at : List Token → Option Line
+local_at ts = name_at ts >>= λ a. end_at a.1 >>= λ u. Some (lines.Local a.0)
+
 -- Properties.
 
 abbrev pub alone_at : List Token → Option ArrayName
@@ -146,11 +149,21 @@ when_at ts = free_term_at ts >>= λ l. rel_at l.1 >>= λ r. last_term_at r.1 >>=
 abbrev pub value_at : List Token → Option NamedExpr
 value_at ts = whole_at (3 * length ts) ts
 
-abbrev pub assigned_at : List Token → Option NamedExpr
-assigned_at ts = close_at ts >>= λ r. assign_at r >>= λ s. value_at s
+abbrev pub kept_at : List Token → Option NamedExpr
+kept_at ts = assign_at ts >>= λ r. value_at r
 
+abbrev pub keep_at : List Token → Option Line
+keep_at ts = name_at ts >>= λ a. kept_at a.1 >>= λ e. Some (lines.Keep a.0 e)
+
+abbrev pub assigned_at : List Token → Option NamedExpr
+assigned_at ts = close_at ts >>= λ r. kept_at r
+
+abbrev pub put_at : ArrayName → List Token → Option Line
+put_at array ts = free_term_at ts >>= λ t. assigned_at t.1 >>= λ e. Some (lines.Set array t.0 e)
+
+-- an array before a bracket, or a name alone
 abbrev pub set_at : List Token → Option Line
-set_at ts = entry_at ts >>= λ a. free_term_at a.1 >>= λ t. assigned_at t.1 >>= λ e. Some (lines.Set a.0 t.0 e)
+set_at ts = or_else (entry_at ts) (λ a. put_at a.0 a.1) (keep_at ts)
 
 abbrev pub last_at : List Token → Option Line
 last_at ts = end_at ts >>= λ u. Some lines.End
@@ -173,6 +186,7 @@ abbrev pub form_line_at : Keyword → List Token → Option Line
 form_line_at keys.Matrix ts = matrix_at ts
 form_line_at keys.Index ts = index_at ts
 form_line_at keys.Vector ts = vector_at ts
+form_line_at keys.Local ts = local_at ts
 form_line_at keys.Loop ts = loop_at ts
 form_line_at keys.For ts = for_at ts
 form_line_at keys.When ts = when_at ts

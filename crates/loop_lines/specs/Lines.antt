@@ -37,6 +37,7 @@ pub data WrittenLine : Type 0 where
   Matrix : List ℕ → Form → WrittenLine
   Index : List ℕ → Size → WrittenLine
   Vector : List ℕ → Size → Source → WrittenLine
+  Local : List ℕ → WrittenLine
   Range : ArrayName → Bound → Bound → WrittenLine
   Rising : ArrayName → WrittenLine
   Strict : ArrayName → WrittenLine
@@ -50,6 +51,7 @@ pub data WrittenLine : Type 0 where
   For : List ℕ → Written → Written → WrittenLine
   When : Written → Rel → Written → WrittenLine
   Set : ArrayName → Written → Sum → WrittenLine
+  Keep : List ℕ → Sum → WrittenLine
   End : WrittenLine
 
 abbrev pub form : Form → Token
@@ -78,6 +80,7 @@ abbrev pub line : WrittenLine → List Token
 line (Matrix name f) = tokens.Word keys.Matrix ∷ tokens.Name name ∷ form f ∷ []
 line (Index name s) = tokens.Word keys.Index ∷ tokens.Name name ∷ size s
 line (Vector name s c) = tokens.Word keys.Vector ∷ tokens.Name name ∷ (size s ++ source c ∷ [])
+line (Local name) = tokens.Word keys.Local ∷ tokens.Name name ∷ []
 line (Range f lo hi) = tokens.Word keys.Range ∷ array f ∷ (term (bound lo) ++ term (bound hi))
 line (Rising p) = tokens.Word keys.Rising ∷ array p ∷ []
 line (Strict p) = tokens.Word keys.Strict ∷ array p ∷ []
@@ -91,6 +94,7 @@ line (Loop name) = tokens.Word keys.Loop ∷ tokens.Name name ∷ []
 line (For name lo hi) = tokens.Word keys.For ∷ tokens.Name name ∷ tokens.Word keys.In ∷ (term lo ++ tokens.To ∷ term hi)
 line (When left r right) = tokens.Word keys.When ∷ (term left ++ rel r ∷ term right)
 line (Set x at value) = tokens.Word keys.Set ∷ array x ∷ tokens.Open ∷ (term at ++ tokens.Close ∷ tokens.Assign ∷ sum value)
+line (Keep name value) = tokens.Word keys.Set ∷ tokens.Name name ∷ tokens.Assign ∷ sum value
 line End = tokens.Word keys.End ∷ []
 
 -- What it means.
@@ -99,6 +103,7 @@ abbrev pub line_of : WrittenLine → Line
 line_of (Matrix name f) = lines.Matrix name f
 line_of (Index name s) = lines.Index name s
 line_of (Vector name s c) = lines.Vector name s c
+line_of (Local name) = lines.Local name
 line_of (Range f lo hi) = lines.Prop (props.Range f (meaning (bound lo)) (meaning (bound hi)))
 line_of (Rising p) = lines.Prop (props.Rising p)
 line_of (Strict p) = lines.Prop (props.Strict p)
@@ -112,6 +117,7 @@ line_of (Loop name) = lines.Loop name
 line_of (For name lo hi) = lines.For name (meaning lo) (meaning hi)
 line_of (When left r right) = lines.When r (meaning left) (meaning right)
 line_of (Set x at value) = lines.Set x (meaning at) (sum_of value)
+line_of (Keep name value) = lines.Keep name (sum_of value)
 line_of End = lines.End
 
 -- these tokens are a line of this meaning

@@ -16,6 +16,7 @@ abbrev pub IsPlainLine : Line → Type 0
 IsPlainLine (lines.Matrix name form) = is_plain name ≡ true
 IsPlainLine (lines.Index name size) = is_plain name ≡ true
 IsPlainLine (lines.Vector name size source) = is_plain name ≡ true
+IsPlainLine (lines.Local name) = is_plain name ≡ true
 IsPlainLine (lines.Loop name) = is_plain name ≡ true
 IsPlainLine (lines.For name lo hi) = is_plain name ≡ true
 IsPlainLine _ = Unit {0}

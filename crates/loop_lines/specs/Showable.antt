@@ -1,5 +1,6 @@
 -- Lines that a text can say.
-use Rattle.std.specs.Prelude.{◌≡◌, ◌^◌, ℕ, ℤ, pos, negsuc, nat_abs, nat_lt, nat_le, Bool, true, false, ◌&&◌, List, length}
+use Rattle.std.specs.Prelude.{◌≡◌, ◌^◌, ℕ, ℤ, nat_abs, nat_lt, nat_le, Bool, true, false, ◌&&◌, List, length}
+use Rattle.loop_core.specs.IsNest.{is_literal}
 use Rattle.loop_core.specs.Names.{begins_with_letter, is_name}
 use Rattle.loop_lines.specs.declared.tree.ArrayName.{ArrayName}
 use Rattle.loop_lines.specs.declared.tree.ArrayName.TheVariants.{Own, Dotted}
@@ -27,11 +28,6 @@ is_array (Dotted matrix part) = is_name matrix && is_part part
 abbrev pub is_shift : ℤ → Bool
 is_shift z = nat_lt (nat_abs z) (2 ^ 63)
 
--- from 0 on
-abbrev pub is_literal : ℤ → Bool
-is_literal (pos n) = nat_lt n (2 ^ 63)
-is_literal (negsuc n) = false
-
 abbrev pub showable_atom_step : NamedAtom-F Bool Bool → Bool
 showable_atom_step NamedAtom-F.Zero = true
 showable_atom_step NamedAtom-F.N = true
@@ -48,6 +44,7 @@ is_showable_term = fold-NamedTerm Bool Bool showable_atom_step showable_term_ste
 abbrev pub showable_value_step : NamedExpr-F Bool → Bool
 showable_value_step (NamedExpr-F.Lit value) = is_literal value
 showable_value_step (NamedExpr-F.Read array at) = is_array array && is_showable_term at
+showable_value_step (NamedExpr-F.Local name) = is_name name
 showable_value_step (NamedExpr-F.Op op left right) = left && right
 
 abbrev pub is_showable_value : NamedExpr → Bool
@@ -82,11 +79,13 @@ abbrev pub is_showable : Line → Bool
 is_showable (lines.Matrix name form) = is_name name
 is_showable (lines.Index name size) = is_name name
 is_showable (lines.Vector name size source) = is_name name
+is_showable (lines.Local name) = is_name name
 is_showable (lines.Prop prop) = is_showable_prop prop
 is_showable (lines.Loop name) = is_name name
 is_showable (lines.For name lo hi) = is_name name && is_showable_term lo && is_showable_term hi
 is_showable (lines.When rel left right) = is_showable_term left && is_showable_term right
 is_showable (lines.Set array at value) = is_array array && is_showable_term at && is_showable_value value
+is_showable (lines.Keep name value) = is_name name && is_showable_value value
 is_showable lines.End = true
 
 -- its names, constants and literals are those that a text can have

@@ -1,5 +1,5 @@
--- The canonical text of a line: one space between words and round `=`, relations and operators, and none
--- elsewhere; numbers without leading zeros; parentheses only where they are needed.
+-- The canonical text of a line: one space between words and round `=`, relations and operators, one
+-- space after a comma, and none elsewhere; numbers without leading zeros; parentheses only where they are needed.
 use Rattle.std.specs.Prelude.{ℕ, ◌+◌, ℤ, pos, int_lt, nat_lt, Bool, if◌then◌else◌, codes, List, [], ◌++◌}
 use Rattle.std.specs.Fmt.{signed_decimal}
 use Rattle.loop_core.specs.declared.decl.Form.{Form}
@@ -9,7 +9,7 @@ use Rattle.loop_core.specs.declared.decl.Size.TheVariants.{N, NPlusOne, Nnz}
 use Rattle.loop_core.specs.declared.decl.Source.{Source}
 use Rattle.loop_core.specs.declared.decl.Source.TheVariants.{File, Zeros}
 use Rattle.loop_core.specs.declared.nest.Op.{Op}
-use Rattle.loop_core.specs.declared.nest.Op.TheVariants.{Add, Sub, Mul, Quot}
+use Rattle.loop_core.specs.declared.nest.Op.TheVariants.{Add, Sub, Mul, Quot, Min, Max}
 use Rattle.loop_core.specs.declared.nest.Rel.{Rel}
 use Rattle.loop_core.specs.declared.nest.Rel.TheVariants.{Equal, Less, LessEqual}
 use Rattle.loop_lines.specs.declared.tree.ArrayName.{ArrayName}
@@ -59,19 +59,6 @@ shown_term = fold-NamedTerm (ℤ → List ℕ) (List ℕ) shown_atom_step shown_
 
 -- Expressions.
 
--- sums and differences have rank 0, products and quotients rank 1, and factors stand above both
-abbrev pub rank : Op → ℕ
-rank Add = 0
-rank Sub = 0
-rank Mul = 1
-rank Quot = 1
-
-abbrev pub shown_op : Op → List ℕ
-shown_op Add = codes " + "
-shown_op Sub = codes " - "
-shown_op Mul = codes " * "
-shown_op Quot = codes " / "
-
 -- a parenthesis, where one is needed
 abbrev pub opening : Bool → List ℕ
 opening is_grouped = if is_grouped then codes "(" else []
@@ -79,13 +66,30 @@ opening is_grouped = if is_grouped then codes "(" else []
 abbrev pub closing : Bool → List ℕ
 closing is_grouped = if is_grouped then codes ")" else []
 
--- The text of an expression where at least a rank is asked, with parentheses where its own is lower.
--- A left operand is asked the rank of its operator, and a right operand a higher one.
+-- Two operands and a sign between them, where at least a rank is asked, with parentheses where its own is lower.
+-- The left operand is asked the rank of the sign, and the right one a higher one.
+abbrev pub shown_between : List ℕ → ℕ → (ℕ → List ℕ) → (ℕ → List ℕ) → ℕ → List ℕ
+shown_between sign rank left right least = opening (nat_lt rank least) ++ left rank ++ sign ++ right (rank + 1) ++ closing (nat_lt rank least)
+
+-- two operands in parentheses after a word, a comma between them
+abbrev pub shown_call : List ℕ → List ℕ → List ℕ → List ℕ
+shown_call word left right = word ++ codes "(" ++ left ++ codes ", " ++ right ++ codes ")"
+
+-- sums and differences have rank 0, products and quotients rank 1, and factors stand above both
+abbrev pub shown_op : Op → (ℕ → List ℕ) → (ℕ → List ℕ) → ℕ → List ℕ
+shown_op Add left right least = shown_between (codes " + ") 0 left right least
+shown_op Sub left right least = shown_between (codes " - ") 0 left right least
+shown_op Mul left right least = shown_between (codes " * ") 1 left right least
+shown_op Quot left right least = shown_between (codes " / ") 1 left right least
+shown_op Min left right least = shown_call (codes "min") (left 0) (right 0)
+shown_op Max left right least = shown_call (codes "max") (left 0) (right 0)
+
+-- the text of an expression where at least a rank is asked
 abbrev pub shown_value_step : NamedExpr-F (ℕ → List ℕ) → ℕ → List ℕ
 shown_value_step (NamedExpr-F.Lit value) least = signed_decimal value
 shown_value_step (NamedExpr-F.Read array at) least = shown_entry array (shown_term at)
-shown_value_step (NamedExpr-F.Op op left right) least =
-    opening (nat_lt (rank op) least) ++ left (rank op) ++ shown_op op ++ right (rank op + 1) ++ closing (nat_lt (rank op) least)
+shown_value_step (NamedExpr-F.Local name) least = name
+shown_value_step (NamedExpr-F.Op op left right) least = shown_op op left right least
 
 abbrev pub shown_value : NamedExpr → ℕ → List ℕ
 shown_value = fold-NamedExpr (ℕ → List ℕ) shown_value_step
@@ -125,9 +129,11 @@ abbrev pub shown_line : Line → List ℕ
 shown_line (lines.Matrix name form) = codes "matrix " ++ name ++ shown_form form
 shown_line (lines.Index name size) = codes "index " ++ name ++ codes " " ++ shown_size size
 shown_line (lines.Vector name size source) = codes "vector " ++ name ++ codes " " ++ shown_size size ++ codes " " ++ shown_source source
+shown_line (lines.Local name) = codes "local " ++ name
 shown_line (lines.Prop prop) = shown_prop prop
 shown_line (lines.Loop name) = codes "loop " ++ name
 shown_line (lines.For name lo hi) = codes "for " ++ name ++ codes " in " ++ shown_term lo ++ codes ".." ++ shown_term hi
 shown_line (lines.When rel left right) = codes "when " ++ shown_term left ++ shown_rel rel ++ shown_term right
 shown_line (lines.Set array at value) = codes "set " ++ shown_entry array (shown_term at) ++ codes " = " ++ shown_value value 0
+shown_line (lines.Keep name value) = codes "set " ++ name ++ codes " = " ++ shown_value value 0
 shown_line lines.End = codes "end"

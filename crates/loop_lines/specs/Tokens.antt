@@ -21,9 +21,9 @@ pub data Piece : Type 0 where
   Run : List ℕ → Piece
   One : Mark → Piece
 
--- `[`, `]`, `(`, `)`, `+`, `-`, `*` and `/`
+-- `[`, `]`, `(`, `)`, `,`, `+`, `-`, `*` and `/`
 abbrev pub sign : ℕ → Option Token
-sign b = if b == 91 then Some tokens.Open else (if b == 93 then Some tokens.Close else (if b == 40 then Some tokens.Left else (if b == 41 then Some tokens.Right else (if b == 43 then Some tokens.Plus else (if b == 45 then Some tokens.Minus else (if b == 42 then Some tokens.Times else (if b == 47 then Some tokens.Over else None)))))))
+sign b = if b == 91 then Some tokens.Open else (if b == 93 then Some tokens.Close else (if b == 40 then Some tokens.Left else (if b == 41 then Some tokens.Right else (if b == 44 then Some tokens.Comma else (if b == 43 then Some tokens.Plus else (if b == 45 then Some tokens.Minus else (if b == 42 then Some tokens.Times else (if b == 47 then Some tokens.Over else None))))))))
 
 abbrev pub signed : Option Token → Mark
 signed (Some t) = Sign t

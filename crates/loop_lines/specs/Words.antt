@@ -28,11 +28,13 @@ nesting =
     (codes "of", keys.Of) ∷ (codes "by", keys.By) ∷ (codes "loop", keys.Loop) ∷ (codes "for", keys.For) ∷ (codes "in", keys.In)
     ∷ (codes "when", keys.When) ∷ (codes "set", keys.Set) ∷ (codes "end", keys.End) ∷ []
 
+-- the word that declares a local, and the words of the lesser and the greater
+abbrev pub keeping : List (List ℕ × Keyword)
+keeping = (codes "local", keys.Local) ∷ (codes "min", keys.Min) ∷ (codes "max", keys.Max) ∷ []
+
 -- words that are reserved and stand in no form of a line
 abbrev pub unused : List (List ℕ × Keyword)
-unused =
-    (codes "local", keys.Local) ∷ (codes "min", keys.Min) ∷ (codes "max", keys.Max) ∷ (codes "down", keys.Down)
-    ∷ (codes "block", keys.Block) ∷ []
+unused = (codes "down", keys.Down) ∷ (codes "block", keys.Block) ∷ []
 
 abbrev pub lookup : List ℕ → List (List ℕ × Keyword) → Option Keyword
 lookup w [] = None
@@ -42,7 +44,7 @@ abbrev pub either : {A : Type 0} → Option A → Option A → Option A
 either first second = or_else first (λ x. Some x) second
 
 abbrev pub keyword : List ℕ → Option Keyword
-keyword w = either (lookup w declaring) (either (lookup w relating) (either (lookup w nesting) (lookup w unused)))
+keyword w = either (lookup w declaring) (either (lookup w relating) (either (lookup w nesting) (either (lookup w keeping) (lookup w unused))))
 
 -- at most 9223372036854775807
 abbrev pub number : Option ℕ → Option Token

@@ -1,15 +1,14 @@
 // Reads an expression.
-ghost use Rattle.std.specs.Prelude.{◌≡◌, ◌<◌, ◌*◌, length, Some, IfOk};
+ghost use Rattle.std.specs.Prelude.{◌≡◌, ◌<◌, ◌*◌, length, IfOk};
 ghost use Rattle.loop_lines.specs.Reading.{Gives};
-ghost use Rattle.loop_lines.specs.declared.tree.NamedExpr.{NamedExpr};
-ghost use Rattle.loop_lines.specs.Exprs.{IsExpr};
-ghost use Rattle.loop_lines.specs.ExprReading.{all_read, element_at, right_at, factor_at, factors_at, product_at, products_at, sum_at, whole_at};
+ghost use Rattle.loop_lines.specs.ExprReading.{all_read, element_at, right_at, named_at, left_at, comma_at, factor_at, both_at, factors_at, product_at, products_at, sum_at, whole_at};
 ghost use Rattle.loop_lines.specs.declared.tree.NamedExpr.TheVariants as exprs;
 
 use crate::refusal::LineRefusal;
 use crate::term::{close, read_term};
-use crate::token::Token;
+use crate::token::{Keyword, Token};
 use crate::tree::{ArrayName, NamedExpr};
+use loop_core::name::Name;
 use loop_core::nest::Op;
 use sqlite_items::Boxed;
 use std::alloc::{AllocError, Global};
@@ -49,6 +48,39 @@ fn right(inner: NamedExpr, tokens: &[Token]) -> Result<(NamedExpr, &[Token]), Li
     }
 }
 
+/// The element of an array before a bracket, and a local elsewhere.
+fn named(
+    alloc: Global,
+    depth: usize,
+    name: Name,
+    tokens: &[Token],
+) -> Result<(NamedExpr, &[Token]), LineRefusal>
+    ensures { Gives (λ x. (x.0, x.1.now)) result (named_at depth name tokens.now) }
+{
+    match tokens {
+        [Token::Open, ..] => element(alloc, depth, ArrayName::Own(name), tokens),
+        rest => Ok((NamedExpr::Local(name), rest)),
+    }
+}
+
+fn after_left(tokens: &[Token]) -> Result<&[Token], LineRefusal>
+    ensures { Gives (λ x. x.now) result (left_at tokens.now) }
+{
+    match tokens {
+        [Token::Left, rest @ ..] => Ok(rest),
+        _ => Err(LineRefusal::Text),
+    }
+}
+
+fn after_comma(tokens: &[Token]) -> Result<&[Token], LineRefusal>
+    ensures { Gives (λ x. x.now) result (comma_at tokens.now) }
+{
+    match tokens {
+        [Token::Comma, rest @ ..] => Ok(rest),
+        _ => Err(LineRefusal::Text),
+    }
+}
+
 #[cycle(expr)]
 fn factor(
     alloc: Global,
@@ -64,12 +96,7 @@ fn factor(
         [Token::Zero, rest @ ..] => Ok((NamedExpr::Lit(0), rest)),
         [Token::One, rest @ ..] => Ok((NamedExpr::Lit(1), rest)),
         [Token::Number(n), rest @ ..] => Ok((NamedExpr::Lit(n.word()), rest)),
-        [Token::Name(name), rest @ ..] => element(
-            alloc,
-            fuel - 1,
-            ArrayName::Own(name.copy()),
-            rest,
-        ),
+        [Token::Name(name), rest @ ..] => named(alloc, fuel - 1, name.copy(), rest),
         [Token::Dotted(matrix, part), rest @ ..] => {
             let array = ArrayName::Dotted(matrix.copy(), part.copy());
             element(alloc, fuel - 1, array, rest)
@@ -78,8 +105,31 @@ fn factor(
             let (inner, rest) = read_sum(alloc, fuel - 1, rest)?;
             right(inner, rest)
         }
+        [Token::Word(Keyword::Min), rest @ ..] => both(alloc, fuel - 1, Op::Min, rest),
+        [Token::Word(Keyword::Max), rest @ ..] => both(alloc, fuel - 1, Op::Max, rest),
         _ => Err(LineRefusal::Text),
     }
+}
+
+/// Two sums in parentheses with a comma between them, joined by the operation.
+#[cycle(expr)]
+fn both(
+    alloc: Global,
+    fuel: usize,
+    op: Op,
+    tokens: &[Token],
+) -> Result<(NamedExpr, &[Token]), LineRefusal>
+    ensures { Gives (λ x. (x.0, x.1.now)) result (both_at fuel op tokens.now) }
+{
+    if fuel == 0 {
+        return Err(LineRefusal::Text);
+    }
+    let rest = after_left(tokens)?;
+    let (first, rest) = read_sum(alloc, fuel - 1, rest)?;
+    let rest = after_comma(rest)?;
+    let (second, rest) = read_sum(alloc, fuel - 1, rest)?;
+    let whole = join(alloc, op, first, second)?;
+    right(whole, rest)
 }
 
 #[cycle(expr)]
@@ -176,20 +226,11 @@ fn all_read(e: NamedExpr, tokens: &[Token]) -> Result<NamedExpr, LineRefusal>
     }
 }
 
-pub fn read_whole(alloc: Global, tokens: &[Token]) -> Result<NamedExpr, LineRefusal>
+/// The expression that all of the tokens are.
+pub fn read_expr(alloc: Global, tokens: &[Token]) -> Result<NamedExpr, LineRefusal>
     ensures { Gives (λ x. x) result (whole_at (3 * length tokens.now) tokens.now) }
 {
     let fuel = 3 * tokens.len();
     let (e, rest) = read_sum(alloc, fuel, tokens)?;
     all_read(e, rest)
-}
-
-/// The expression that the tokens are.
-pub fn read_expr(alloc: Global, tokens: &[Token]) -> Result<NamedExpr, LineRefusal>
-    // What is read is of the grammar.
-    ensures found { IfOk result (λ e. IsExpr tokens.now e) }
-    // What is of the grammar is read, unless memory runs out.
-    ensures only { (e : NamedExpr) → IsExpr tokens.now e → Gives (λ x. x) result (Some e) }
-{
-    read_whole(alloc, tokens)
 }

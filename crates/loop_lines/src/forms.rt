@@ -1,18 +1,15 @@
 // Reads a line of declarations, of properties or of the loop from its words and signs.
-ghost use Rattle.std.specs.Prelude.{◌≡◌, Some, IfOk};
+ghost use Rattle.std.specs.Prelude.{◌≡◌};
 ghost use Rattle.loop_lines.specs.Reading.{Gives};
-ghost use Rattle.loop_lines.specs.declared.line.Line.{Line};
-ghost use Rattle.loop_lines.specs.Lines.{IsLine};
-ghost use Rattle.loop_lines.specs.LineReading.{matrix_at, index_at, last_source_at, vector_at, alone_at, pair_at, by_pair_at, diagonal_at, last_bound_at, range_at, loop_at, free_term_at, last_term_at, terms_at, for_at, when_at, value_at, assigned_at, set_at, last_at, prop_at, form_line_at, line_at};
+ghost use Rattle.loop_lines.specs.LineReading.{matrix_at, index_at, last_source_at, vector_at, local_at, alone_at, pair_at, by_pair_at, diagonal_at, last_bound_at, range_at, loop_at, free_term_at, last_term_at, terms_at, for_at, when_at, value_at, kept_at, keep_at, assigned_at, put_at, set_at, last_at, prop_at, form_line_at, line_at};
 
-use crate::expr::read_whole;
+use crate::expr::read_expr;
 use crate::line::{Line, NamedProp};
 use crate::refusal::LineRefusal;
 use crate::sign::{
-    after_assign, after_by, after_in, after_of, after_to, array, element, end, form, name, rel,
-    size, source,
+    after_assign, after_by, after_in, after_of, after_to, array, end, form, name, rel, size, source,
 };
-use crate::term::{bound, close, read_term};
+use crate::term::{bound, close, entry, read_term};
 use crate::token::{Keyword, Token};
 use crate::tree::{ArrayName, NamedExpr, NamedTerm};
 use loop_core::decl::Source;
@@ -51,6 +48,14 @@ fn vector(tokens: &[Token]) -> Result<Line, LineRefusal>
     let (size, rest) = size(rest)?;
     let source = last_source(rest)?;
     Ok(Line::Vector(name, size, source))
+}
+
+fn local(tokens: &[Token]) -> Result<Line, LineRefusal>
+    ensures { Gives (λ x. x) result (local_at tokens.now) }
+{
+    let (name, rest) = name(tokens)?;
+    end(rest)?;
+    Ok(Line::Local(name))
 }
 
 fn alone(tokens: &[Token]) -> Result<ArrayName, LineRefusal>
@@ -156,24 +161,46 @@ fn guard(alloc: Global, tokens: &[Token]) -> Result<Line, LineRefusal>
 fn value(alloc: Global, tokens: &[Token]) -> Result<NamedExpr, LineRefusal>
     ensures { Gives (λ x. x) result (value_at tokens.now) }
 {
-    read_whole(alloc, tokens)
+    read_expr(alloc, tokens)
+}
+
+fn kept(alloc: Global, tokens: &[Token]) -> Result<NamedExpr, LineRefusal>
+    ensures { Gives (λ x. x) result (kept_at tokens.now) }
+{
+    let rest = after_assign(tokens)?;
+    value(alloc, rest)
+}
+
+fn keep(alloc: Global, tokens: &[Token]) -> Result<Line, LineRefusal>
+    ensures { Gives (λ x. x) result (keep_at tokens.now) }
+{
+    let (name, rest) = name(tokens)?;
+    let value = kept(alloc, rest)?;
+    Ok(Line::Keep(name, value))
 }
 
 fn assigned(alloc: Global, tokens: &[Token]) -> Result<NamedExpr, LineRefusal>
     ensures { Gives (λ x. x) result (assigned_at tokens.now) }
 {
     let rest = close(tokens)?;
-    let rest = after_assign(rest)?;
-    value(alloc, rest)
+    kept(alloc, rest)
+}
+
+fn put(alloc: Global, array: ArrayName, tokens: &[Token]) -> Result<Line, LineRefusal>
+    ensures { Gives (λ x. x) result (put_at array tokens.now) }
+{
+    let (at, rest) = free_term(alloc, tokens)?;
+    let value = assigned(alloc, rest)?;
+    Ok(Line::Set(array, at, value))
 }
 
 fn statement(alloc: Global, tokens: &[Token]) -> Result<Line, LineRefusal>
     ensures { Gives (λ x. x) result (set_at tokens.now) }
 {
-    let (array, rest) = element(tokens)?;
-    let (at, rest) = free_term(alloc, rest)?;
-    let value = assigned(alloc, rest)?;
-    Ok(Line::Set(array, at, value))
+    match entry(tokens) {
+        Some((array, rest)) => put(alloc, array, rest),
+        None => keep(alloc, tokens),
+    }
 }
 
 fn last(tokens: &[Token]) -> Result<Line, LineRefusal>
@@ -219,6 +246,7 @@ fn form_line(alloc: Global, word: Keyword, tokens: &[Token]) -> Result<Line, Lin
         Keyword::Matrix => matrix(tokens),
         Keyword::Index => index(tokens),
         Keyword::Vector => vector(tokens),
+        Keyword::Local => local(tokens),
         Keyword::Loop => outer(tokens),
         Keyword::For => inner(alloc, tokens),
         Keyword::When => guard(alloc, tokens),
@@ -228,22 +256,12 @@ fn form_line(alloc: Global, word: Keyword, tokens: &[Token]) -> Result<Line, Lin
     }
 }
 
-/// The line of the form that its first word names.
-pub fn by_word(alloc: Global, tokens: &[Token]) -> Result<Line, LineRefusal>
+/// The line that words and signs are, of the form that the first word names.
+pub fn read_line(alloc: Global, tokens: &[Token]) -> Result<Line, LineRefusal>
     ensures { Gives (λ x. x) result (line_at tokens.now) }
 {
     match tokens {
         [Token::Word(word), rest @ ..] => form_line(alloc, *word, rest),
         _ => Err(LineRefusal::Text),
     }
-}
-
-/// The line that words and signs are.
-pub fn read_line(alloc: Global, tokens: &[Token]) -> Result<Line, LineRefusal>
-    // What is read is of the grammar.
-    ensures found { IfOk result (λ l. IsLine tokens.now l) }
-    // What is of the grammar is read, unless memory runs out.
-    ensures only { (l : Line) → IsLine tokens.now l → Gives (λ x. x) result (Some l) }
-{
-    by_word(alloc, tokens)
 }

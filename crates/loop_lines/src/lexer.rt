@@ -71,6 +71,7 @@ fn sign(byte: u8) -> Option<Token>
         b']' => Some(Token::Close),
         b'(' => Some(Token::Left),
         b')' => Some(Token::Right),
+        b',' => Some(Token::Comma),
         b'+' => Some(Token::Plus),
         b'-' => Some(Token::Minus),
         b'*' => Some(Token::Times),

@@ -2,16 +2,16 @@
 #![tactic(auto)]
 
 pub mod block;
-pub mod expr;
-pub mod forms;
+mod expr;
+mod forms;
 pub mod laws;
-pub mod lexer;
+mod lexer;
 pub mod line;
 mod number;
 pub mod place;
 pub mod refusal;
 mod sign;
 mod term;
-pub mod token;
+mod token;
 pub mod tree;
 mod word;

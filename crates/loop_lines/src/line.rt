@@ -24,13 +24,17 @@ pub enum Line {
     Matrix(Name, Form),
     Index(Name, Size),
     Vector(Name, Size, Source),
+    Local(Name),
     Prop(NamedProp),
     /// The outer loop.
     Loop(Name),
     /// A loop from the first term up to but not including the second.
     For(Name, NamedTerm, NamedTerm),
     When(Rel, NamedTerm, NamedTerm),
+    /// The value is written into the array at the term.
     Set(ArrayName, NamedTerm, NamedExpr),
+    /// The local keeps the value.
+    Keep(Name, NamedExpr),
     /// The end of a block.
     End,
 }

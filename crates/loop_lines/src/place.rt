@@ -1,17 +1,17 @@
-// Where a line stands in a loop file, and the least line that doesn't fit.
-ghost use Rattle.std.specs.Prelude.{◌≡◌, ◌+◌, ◌<◌, ◌≤◌, ◌^◌, length, IfOk};
-ghost use Rattle.text_base.specs.Lines.{lines};
+// What a line says, and where it stands in a loop file.
+ghost use Rattle.std.specs.Prelude.{◌+◌, ◌<◌, ◌≡◌, ◌^◌, Option, Some, IfOk};
+ghost use Rattle.loop_lines.specs.declared.line.Line.{Line};
 ghost use Rattle.loop_lines.specs.Reading.{Gives};
-ghost use Rattle.loop_lines.specs.Fitting.{is_skipped, text_line, open_blocks, heading_after, body_after, place_after, moved, next_place, ending, misfit, start};
+ghost use Rattle.loop_lines.specs.Fitting.{is_skipped, text_line, open_blocks, heading_after, body_after, place_after};
+ghost use Rattle.loop_lines.specs.TextLines.{IsTextLine};
 
-use crate::forms::by_word;
+use crate::forms::read_line;
 use crate::lexer::read_tokens;
 use crate::line::Line;
 use crate::refusal::LineRefusal;
 use std::alloc::Global;
-use text_base::lines::{split_line, trim_line};
+use text_base::lines::trim_line;
 use text_base::words::skip_blanks;
-use wave_base::types::Memory;
 
 /// What stands above a line.
 #[derive(Clone, Copy, Debug, PartialEq, Eq)]
@@ -34,8 +34,7 @@ fn is_skipped(line: &[u8]) -> bool
     }
 }
 
-/// What a line of the text is, without its line feed: `None` where it is skipped.
-pub fn text_line(alloc: Global, line: &[u8]) -> Result<Option<Line>, LineRefusal>
+fn read_bytes(alloc: Global, line: &[u8]) -> Result<Option<Line>, LineRefusal>
     ensures { Gives (λ x. x) result (text_line line.now) }
 {
     let line = trim_line(line);
@@ -46,8 +45,20 @@ pub fn text_line(alloc: Global, line: &[u8]) -> Result<Option<Line>, LineRefusal
         return Ok(None);
     }
     let tokens = read_tokens(alloc, line)?;
-    let line = by_word(alloc, tokens.as_slice())?;
+    let line = read_line(alloc, tokens.as_slice())?;
     Ok(Some(line))
+}
+
+/// What a line of the text is, without its line feed: `None` where it is skipped. Refused exactly where it has
+/// more than 200 bytes or its words and signs are no line of the grammar.
+pub fn text_line(alloc: Global, line: &[u8]) -> Result<Option<Line>, LineRefusal>
+    // What is read is of the grammar.
+    ensures found { IfOk result (λ said. IsTextLine line.now said) }
+    // What is of the grammar is read, unless memory runs out.
+    ensures only { (said : Option Line) → IsTextLine line.now said → Gives (λ x. x) result (Some said) }
+    ensures reading { Gives (λ x. x) result (text_line line.now) }
+{
+    read_bytes(alloc, line)
 }
 
 /// Declarations and properties stand above the loop, and the one matrix is among them.
@@ -64,6 +75,7 @@ fn heading_after(matrix: bool, line: &Line) -> Result<Place, LineRefusal>
         }
         Line::Index(_, _) => Ok(Place::Heading { matrix }),
         Line::Vector(_, _, _) => Ok(Place::Heading { matrix }),
+        Line::Local(_) => Ok(Place::Heading { matrix }),
         Line::Prop(_) => Ok(Place::Heading { matrix }),
         Line::Loop(_) => {
             if matrix {
@@ -85,6 +97,7 @@ fn body_after(blocks: u32, line: &Line) -> Result<Place, LineRefusal>
         Line::For(_, _, _) => Ok(Place::Inside { blocks: blocks + 1 }),
         Line::When(_, _, _) => Ok(Place::Inside { blocks: blocks + 1 }),
         Line::Set(_, _, _) => Ok(Place::Inside { blocks }),
+        Line::Keep(_, _) => Ok(Place::Inside { blocks }),
         Line::End => {
             if blocks == 0 {
                 Ok(Place::Behind)
@@ -96,7 +109,8 @@ fn body_after(blocks: u32, line: &Line) -> Result<Place, LineRefusal>
     }
 }
 
-fn place_after(place: Place, line: &Line) -> Result<Place, LineRefusal>
+/// What stands above the line after this one. `Text` says that this one can't stand where it does.
+pub fn place_after(place: Place, line: &Line) -> Result<Place, LineRefusal>
     requires { open_blocks place + 1 < 2 ^ 32 }
     ensures { Gives (λ x. x) result (place_after place line.now) }
 {
@@ -105,53 +119,4 @@ fn place_after(place: Place, line: &Line) -> Result<Place, LineRefusal>
         Place::Inside { blocks } => body_after(blocks, line),
         Place::Behind => Err(LineRefusal::Text),
     }
-}
-
-fn moved(place: Place, line: Option<Line>) -> Result<Place, LineRefusal>
-    requires { open_blocks place + 1 < 2 ^ 32 }
-    ensures { Gives (λ x. x) result (moved place line) }
-{
-    match line {
-        None => Ok(place),
-        Some(line) => place_after(place, &line),
-    }
-}
-
-fn next_place(alloc: Global, place: Place, line: &[u8]) -> Result<Place, LineRefusal>
-    requires { open_blocks place + 1 < 2 ^ 32 }
-    ensures { Gives (λ x. x) result (next_place place line.now) }
-{
-    let line = text_line(alloc, line)?;
-    moved(place, line)
-}
-
-fn ending(place: Place, at: u32) -> Option<u32>
-    ensures { result ≡ ending place at }
-{
-    match place {
-        Place::Behind => None,
-        _ => Some(at),
-    }
-}
-
-/// The least line of a loop file that has no form of the language or doesn't fit the lines above it, and `None`
-/// where there is none. Lines count from 1, and a missing loop or end is missing on the line after the last.
-pub fn least_misfit(alloc: Global, bytes: &[u8]) -> Result<Option<u32>, Memory>
-    requires { length bytes.now ≤ 2 ^ 28 }
-    ensures { IfOk result (λ x. x ≡ misfit start 1 (lines bytes.now)) }
-{
-    let mut place = Place::Heading { matrix: false };
-    let mut at: u32 = 1;
-    let mut rest = bytes;
-    while !rest.is_empty() {
-        let (line, after) = split_line(rest);
-        match next_place(alloc, place, line) {
-            Ok(next) => place = next,
-            Err(LineRefusal::Text) => return Ok(Some(at)),
-            Err(LineRefusal::Memory) => return Err(Memory),
-        }
-        at += 1;
-        rest = after;
-    }
-    Ok(ending(place, at))
 }

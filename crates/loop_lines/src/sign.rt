@@ -1,10 +1,10 @@
 // Single words and signs at the front of a line's rest.
 ghost use Rattle.std.specs.Prelude.{◌≡◌};
-ghost use Rattle.loop_lines.specs.Reading.{Gives, array_at, entry_at};
+ghost use Rattle.loop_lines.specs.Reading.{Gives, array_at};
 ghost use Rattle.loop_lines.specs.LineReading.{end_at, name_at, in_at, of_at, by_at, to_at, assign_at, rel_at, form_at, one_at, longer_at, size_at, source_at};
 
 use crate::refusal::LineRefusal;
-use crate::term::{array_name, entry};
+use crate::term::array_name;
 use crate::token::{Keyword, Token};
 use crate::tree::ArrayName;
 use loop_core::decl::{Form, Size, Source};
@@ -36,16 +36,6 @@ pub fn array(tokens: &[Token]) -> Result<(ArrayName, &[Token]), LineRefusal>
     ensures { Gives (λ x. (x.0, x.1.now)) result (array_at tokens.now) }
 {
     match array_name(tokens) {
-        Some((array, rest)) => Ok((array, rest)),
-        None => Err(LineRefusal::Text),
-    }
-}
-
-/// An array before `[`, and the rest after it.
-pub fn element(tokens: &[Token]) -> Result<(ArrayName, &[Token]), LineRefusal>
-    ensures { Gives (λ x. (x.0, x.1.now)) result (entry_at tokens.now) }
-{
-    match entry(tokens) {
         Some((array, rest)) => Ok((array, rest)),
         None => Err(LineRefusal::Text),
     }

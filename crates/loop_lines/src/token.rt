@@ -59,6 +59,8 @@ pub enum Token {
     Left,
     /// `)`
     Right,
+    /// `,`
+    Comma,
     Plus,
     Minus,
     Times,

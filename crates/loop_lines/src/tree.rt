@@ -29,10 +29,11 @@ pub struct NamedTerm {
     pub plus: i64,
 }
 
-/// A number, an array at a term, or an operation.
+/// A number, an array at a term, a local, or an operation.
 #[derive(Drop)]
 pub enum NamedExpr {
     Lit(i64),
     Read(ArrayName, NamedTerm),
+    Local(Name),
     Op(Op, Boxed<NamedExpr>, Boxed<NamedExpr>),
 }

@@ -3,7 +3,7 @@ ghost use Rattle.std.specs.Prelude.{◌≡◌};
 ghost use Rattle.std.specs.Str.{bytes_eq};
 ghost use Rattle.text_base.specs.Numbers.{natural as value_of};
 ghost use Rattle.loop_core.specs.Names.{is_digit, is_letter, is_name_byte};
-ghost use Rattle.loop_lines.specs.Words.{lookup, declaring, relating, nesting, unused, keyword, number, digits_token, name_form, letters_token, word_token, as_name, dotted};
+ghost use Rattle.loop_lines.specs.Words.{lookup, declaring, relating, nesting, keeping, unused, keyword, number, digits_token, name_form, letters_token, word_token, as_name, dotted};
 
 use crate::number::Natural;
 use crate::token::{Keyword, Token};
@@ -107,8 +107,8 @@ fn nesting(word: &[u8]) -> Option<Keyword>
     }
 }
 
-fn unused(word: &[u8]) -> Option<Keyword>
-    ensures { result ≡ lookup word.now unused }
+fn keeping(word: &[u8]) -> Option<Keyword>
+    ensures { result ≡ lookup word.now keeping }
 {
     if is_word(word, b"local") {
         Some(Keyword::Local)
@@ -116,7 +116,15 @@ fn unused(word: &[u8]) -> Option<Keyword>
         Some(Keyword::Min)
     } else if is_word(word, b"max") {
         Some(Keyword::Max)
-    } else if is_word(word, b"down") {
+    } else {
+        None
+    }
+}
+
+fn unused(word: &[u8]) -> Option<Keyword>
+    ensures { result ≡ lookup word.now unused }
+{
+    if is_word(word, b"down") {
         Some(Keyword::Down)
     } else if is_word(word, b"block") {
         Some(Keyword::Block)
@@ -135,6 +143,9 @@ fn keyword(word: &[u8]) -> Option<Keyword>
         return Some(found);
     }
     if let Some(found) = nesting(word) {
+        return Some(found);
+    }
+    if let Some(found) = keeping(word) {
         return Some(found);
     }
     unused(word)

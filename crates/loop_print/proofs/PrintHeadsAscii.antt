@@ -1,5 +1,5 @@
--- The texts of names, declarations and properties are ASCII where the declared names are names.
-use Rattle.std.proofs.Common.{◌≡◌, ℕ, zero, suc, true, List, [], ◌∷◌, ◌++◌, refl, map, slice_index_or, codes}
+-- The texts of names, declarations, locals and properties are ASCII where the declared names are names.
+use Rattle.std.proofs.Common.{◌≡◌, ℕ, zero, suc, true, false, nat_lt, if◌then◌else◌, List, [], ◌∷◌, ◌++◌, refl, map, slice_index_or, codes}
 use Rattle.std.specs.List.{list_all}
 use Rattle.wave_base.specs.declared.types.ArrayId.{ArrayId}
 use Rattle.loop_core.specs.declared.decl.Decl.{Decl}
@@ -10,14 +10,15 @@ use Rattle.loop_core.specs.declared.decl.Source.{Source}
 use Rattle.loop_core.specs.declared.decl.Source.TheVariants.{File, Zeros}
 use Rattle.loop_core.specs.declared.decl.DeclKind.{DeclKind}
 use Rattle.loop_core.specs.declared.decl.DeclKind.TheVariants.{Matrix, Index, Vector}
+use Rattle.loop_core.specs.declared.decl.LocalDecl.{LocalDecl}
 use Rattle.loop_core.specs.declared.decl.PropDecl.{PropDecl}
 use Rattle.loop_core.specs.declared.decl.PropKind.{PropKind}
 use Rattle.loop_core.specs.declared.decl.PropKind.TheVariants.{Range, Rising, Strict, Injective, Sorted, Below, Upto, Diagonal, Before}
 use Rattle.loop_core.specs.declared.nest.Term.{Term}
 use Rattle.loop_lines.specs.Plain.{is_plain}
-use Rattle.loop_print.specs.PrintNames.{names_of, array_names, array_name}
+use Rattle.loop_print.specs.PrintNames.{names_of, array_names, array_name, local_name}
 use Rattle.loop_print.specs.PrintTerms.{term_text}
-use Rattle.loop_print.specs.PrintHeads.{size_text, source_text, decl_text, prop_text, props_text, heads_text, props_before, props_behind}
+use Rattle.loop_print.specs.PrintHeads.{size_text, source_text, decl_text, prop_text, HeadLine, decl_line, local_line, prop_line, lines_before, lines_from, merged, head_lines, heads_text}
 use Rattle.loop_lines.proofs.Bools.{and_left, and_right}
 use Rattle.loop_print.proofs.PrintAscii.{Small, word, ◌&◌, name_small}
 use Rattle.loop_print.proofs.PrintTermsAscii.{term_small}
@@ -68,6 +69,19 @@ array_names_small (d ∷ ds) h =
 pub array_small : (decls : List Decl) → AreNamed decls → (array : ArrayId) → Small (array_name decls array)
 array_small decls h array = small_at (array_names decls) array.0 (array_names_small decls h)
 
+-- the names of the locals are names
+abbrev pub LocalsNamed : List LocalDecl → Type 0
+LocalsNamed locals = list_all is_plain (map (λ l. l.name) locals) ≡ true
+
+local_names_small : (locals : List LocalDecl) → LocalsNamed locals → AllSmall (map (λ l. l.name) locals)
+local_names_small [] h = none
+local_names_small (l ∷ ls) h =
+    let rest = map (λ l'. l'.name) ls in
+    more l.name rest (name_small l.name (and_left (is_plain l.name) (list_all is_plain rest) h)) (local_names_small ls (and_right (is_plain l.name) (list_all is_plain rest) h))
+
+pub local_small : (locals : List LocalDecl) → LocalsNamed locals → (local : ℕ) → Small (local_name locals local)
+local_small locals h local = small_at (map (λ l. l.name) locals) local (local_names_small locals h)
+
 size_small : (size : Size) → Small (size_text size)
 size_small N = word (codes "n") refl
 size_small NPlusOne = word (codes "n+1") refl
@@ -83,6 +97,35 @@ decl_small name (Matrix Csc) h = word (codes "matrix ") refl & h & word (codes "
 decl_small name (Index size) h = word (codes "index ") refl & h & word (codes " ") refl & size_small size & word (codes "\n") refl
 decl_small name (Vector size source) h =
     word (codes "vector ") refl & h & word (codes " ") refl & size_small size & word (codes " ") refl & source_small source & word (codes "\n") refl
+
+-- each of the lines
+data SmallLines : List HeadLine → Type 0 where
+  no_lines : SmallLines []
+  a_line : (h : HeadLine) (hs : List HeadLine) → Small h.text → SmallLines hs → SmallLines (h ∷ hs)
+
+lines_both : (xs ys : List HeadLine) → SmallLines xs → SmallLines ys → SmallLines (xs ++ ys)
+lines_both _ ys no_lines k = k
+lines_both _ ys (a_line h hs t ts) k = a_line h (hs ++ ys) t (lines_both hs ys ts k)
+
+before_small : (n : ℕ) (hs : List HeadLine) → SmallLines hs → SmallLines (lines_before n hs)
+before_small n _ no_lines = no_lines
+before_small n _ (a_line h hs t ts) =
+    elim (nat_lt h.number n) as (λ b. SmallLines (if b then h ∷ lines_before n hs else [])) [ true ↦ a_line h (lines_before n hs) t (before_small n hs ts) | false ↦ no_lines ]
+
+from_small : (n : ℕ) (hs : List HeadLine) → SmallLines hs → SmallLines (lines_from n hs)
+from_small n _ no_lines = no_lines
+from_small n _ (a_line h hs t ts) =
+    elim (nat_lt h.number n) as (λ b. SmallLines (if b then lines_from n hs else h ∷ hs)) [ true ↦ from_small n hs ts | false ↦ a_line h hs t ts ]
+
+merged_small : (xs ys : List HeadLine) → SmallLines xs → SmallLines ys → SmallLines (merged xs ys)
+merged_small _ ys no_lines k = k
+merged_small _ ys (a_line h hs t ts) k =
+    let others = lines_from h.number ys in
+    lines_both (lines_before h.number ys) (h ∷ merged hs others) (before_small h.number ys k) (a_line h (merged hs others) t (merged_small hs others ts (from_small h.number ys k)))
+
+text_small : (hs : List HeadLine) → SmallLines hs → Small (heads_text hs)
+text_small _ no_lines = word [] refl
+text_small _ (a_line h hs t ts) = t & text_small hs ts
 
 module _ (all : List Decl) (arrays : (array : ArrayId) → Small (array_name all array)) where
   bound_small : (t : Term) → Small (term_text all [] t)
@@ -101,11 +144,23 @@ module _ (all : List Decl) (arrays : (array : ArrayId) → Small (array_name all
       word (codes "diagonal ") refl & arrays d & word (codes " of ") refl & arrays f & word (codes " by ") refl & arrays p & word (codes "\n") refl
   prop_small (Before f g) = word (codes "before ") refl & arrays f & word (codes " ") refl & arrays g & word (codes "\n") refl
 
-  props_small : (props : List PropDecl) → Small (props_text all props)
-  props_small [] = word [] refl
-  props_small (p ∷ ps) = prop_small p.kind & props_small ps
+  decls_small : (decls : List Decl) → AreNamed decls → SmallLines (map decl_line decls)
+  decls_small [] h = no_lines
+  decls_small (d ∷ ds) h = a_line (decl_line d) (map decl_line ds) (decl_small d.name d.kind (first_named d ds h)) (decls_small ds (rest_named d ds h))
 
-  pub heads_small : (decls : List Decl) (props : List PropDecl) → AreNamed decls → Small (heads_text all decls props)
-  heads_small [] props h = props_small props
-  heads_small (d ∷ ds) props h =
-      props_small (props_before d.line props) & decl_small d.name d.kind (first_named d ds h) & heads_small ds (props_behind d.line props) (rest_named d ds h)
+  locals_small : (locals : List LocalDecl) → LocalsNamed locals → SmallLines (map local_line locals)
+  locals_small [] h = no_lines
+  locals_small (l ∷ ls) h =
+      let rest = list_all is_plain (map (λ l'. l'.name) ls) in
+      let name = name_small l.name (and_left (is_plain l.name) rest h) in
+      a_line (local_line l) (map local_line ls) (word (codes "local ") refl & name & word (codes "\n") refl) (locals_small ls (and_right (is_plain l.name) rest h))
+
+  props_small : (props : List PropDecl) → SmallLines (map (prop_line all) props)
+  props_small [] = no_lines
+  props_small (p ∷ ps) = a_line (prop_line all p) (map (prop_line all) ps) (prop_small p.kind) (props_small ps)
+
+  pub heads_small : (decls : List Decl) (locals : List LocalDecl) (props : List PropDecl) → AreNamed decls → LocalsNamed locals → Small (heads_text (head_lines all decls locals props))
+  heads_small decls locals props h k =
+      text_small (head_lines all decls locals props)
+      (merged_small (map decl_line decls) (merged (map local_line locals) (map (prop_line all) props)) (decls_small decls h)
+      (merged_small (map local_line locals) (map (prop_line all) props) (locals_small locals k) (props_small props)))

@@ -2,6 +2,8 @@ pub mod PrintNames
 pub mod PrintBlocks
 pub mod PrintTerms
 pub mod PrintExprs
+pub mod PrintOps
 pub mod PrintHeads
+pub mod PrintOrder
 pub mod PrintItems
 pub mod PrintText

@@ -1,5 +1,5 @@
--- The lines of declarations and properties.
-use Rattle.std.specs.Prelude.{ℕ, nat_lt, if◌then◌else◌, codes, List, [], ◌∷◌, ◌++◌}
+-- The lines of declarations, locals and properties.
+use Rattle.std.specs.Prelude.{ℕ, nat_lt, if◌then◌else◌, codes, List, [], ◌∷◌, ◌++◌, map}
 use Rattle.std.specs.List.{flat_map}
 use Rattle.loop_core.specs.declared.decl.Decl.{Decl}
 use Rattle.loop_core.specs.declared.decl.Form.TheVariants.{Csr, Csc}
@@ -9,6 +9,7 @@ use Rattle.loop_core.specs.declared.decl.Source.{Source}
 use Rattle.loop_core.specs.declared.decl.Source.TheVariants.{File, Zeros}
 use Rattle.loop_core.specs.declared.decl.DeclKind.{DeclKind}
 use Rattle.loop_core.specs.declared.decl.DeclKind.TheVariants.{Matrix, Index, Vector}
+use Rattle.loop_core.specs.declared.decl.LocalDecl.{LocalDecl}
 use Rattle.loop_core.specs.declared.decl.PropDecl.{PropDecl}
 use Rattle.loop_core.specs.declared.decl.PropKind.{PropKind}
 use Rattle.loop_core.specs.declared.decl.PropKind.TheVariants.{Range, Rising, Strict, Injective, Sorted, Below, Upto, Diagonal, Before}
@@ -41,21 +42,38 @@ prop_text decls (Upto f p) = codes "upto " ++ array_name decls f ++ codes " by "
 prop_text decls (Diagonal d f p) = codes "diagonal " ++ array_name decls d ++ codes " of " ++ array_name decls f ++ codes " by " ++ array_name decls p ++ codes "\n"
 prop_text decls (Before f g) = codes "before " ++ array_name decls f ++ codes " " ++ array_name decls g ++ codes "\n"
 
--- the leading properties whose lines are before a line, and those from the first other one on
-abbrev pub props_before : ℕ → List PropDecl → List PropDecl
-props_before line [] = []
-props_before line (p ∷ ps) = if nat_lt p.line line then p ∷ props_before line ps else []
+-- A line above the loop, with its number.
+pub record HeadLine : Type 0 where
+  pub number : ℕ
+  pub text : List ℕ
 
-abbrev pub props_behind : ℕ → List PropDecl → List PropDecl
-props_behind line [] = []
-props_behind line (p ∷ ps) = if nat_lt p.line line then props_behind line ps else p ∷ ps
+abbrev pub decl_line : Decl → HeadLine
+decl_line d = record { number = d.line; text = decl_text d.name d.kind }
 
-abbrev pub props_text : List Decl → List PropDecl → List ℕ
-props_text decls props = flat_map (λ p. prop_text decls p.kind) props
+abbrev pub local_line : LocalDecl → HeadLine
+local_line l = record { number = l.line; text = codes "local " ++ l.name ++ codes "\n" }
 
--- The declarations and properties of a nest in the order of their lines. The arrays of a property are
+abbrev pub prop_line : List Decl → PropDecl → HeadLine
+prop_line decls p = record { number = p.line; text = prop_text decls p.kind }
+
+-- the leading lines that stand before a number, and those from the first other one on
+abbrev pub lines_before : ℕ → List HeadLine → List HeadLine
+lines_before number [] = []
+lines_before number (h ∷ hs) = if nat_lt h.number number then h ∷ lines_before number hs else []
+
+abbrev pub lines_from : ℕ → List HeadLine → List HeadLine
+lines_from number [] = []
+lines_from number (h ∷ hs) = if nat_lt h.number number then lines_from number hs else h ∷ hs
+
+-- two lists of lines, each in the order of its numbers, as one such list
+abbrev pub merged : List HeadLine → List HeadLine → List HeadLine
+merged [] others = others
+merged (h ∷ hs) others = lines_before h.number others ++ h ∷ merged hs (lines_from h.number others)
+
+-- The lines of declarations, locals and properties in the order of their numbers. The arrays of a property are
 -- numbered by all declarations.
-abbrev pub heads_text : List Decl → List Decl → List PropDecl → List ℕ
-heads_text all [] props = props_text all props
-heads_text all (d ∷ more) props =
-    props_text all (props_before d.line props) ++ decl_text d.name d.kind ++ heads_text all more (props_behind d.line props)
+abbrev pub head_lines : List Decl → List Decl → List LocalDecl → List PropDecl → List HeadLine
+head_lines all decls locals props = merged (map decl_line decls) (merged (map local_line locals) (map (prop_line all) props))
+
+abbrev pub heads_text : List HeadLine → List ℕ
+heads_text heads = flat_map (λ h. h.text) heads

@@ -1,7 +1,8 @@
--- The names of arrays and variables in a text.
-use Rattle.std.specs.Prelude.{ℕ, ◌==◌, if◌then◌else◌, codes, slice_index_or, List, [], ◌∷◌, ◌++◌}
+-- The names of arrays, locals and variables in a text.
+use Rattle.std.specs.Prelude.{ℕ, ◌==◌, if◌then◌else◌, codes, slice_index_or, List, [], ◌∷◌, ◌++◌, map}
 use Rattle.wave_base.specs.declared.types.ArrayId.{ArrayId}
 use Rattle.loop_core.specs.declared.decl.Decl.{Decl}
+use Rattle.loop_core.specs.declared.decl.LocalDecl.{LocalDecl}
 use Rattle.loop_core.specs.declared.decl.Form.TheVariants.{Csr, Csc}
 use Rattle.loop_core.specs.declared.decl.DeclKind.{DeclKind}
 use Rattle.loop_core.specs.declared.decl.DeclKind.TheVariants.{Matrix, Index, Vector}
@@ -22,6 +23,10 @@ array_names (d ∷ more) = names_of d.name d.kind ++ array_names more
 -- the name of an array, which is empty where no declaration has its number
 abbrev pub array_name : List Decl → ArrayId → List ℕ
 array_name decls array = slice_index_or (array_names decls) array.0 []
+
+-- the name of a local, which is empty where no declaration has its number
+abbrev pub local_name : List LocalDecl → ℕ → List ℕ
+local_name locals local = slice_index_or (map (λ l. l.name) locals) local []
 
 -- the name of the variable of the innermost loop at a line, which is empty where there is none
 abbrev pub variable_name : List Block → ℕ → List ℕ

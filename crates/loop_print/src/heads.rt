@@ -1,12 +1,14 @@
-// The lines of declarations and properties.
-ghost use Rattle.std.specs.Prelude.{◌≡◌, ◌++◌, ◌∷◌, [], codes, OnOk, IfOk, MatchOption};
+// The lines of declarations, locals and properties.
+ghost use Rattle.std.specs.Prelude.{◌≡◌, ◌++◌, [], codes, OnOk};
 ghost use Rattle.loop_print.specs.PrintNames.{array_name};
 ghost use Rattle.loop_print.specs.PrintTerms.{term_text};
-ghost use Rattle.loop_print.specs.PrintHeads.{size_text, source_text, decl_text, prop_text, props_text, props_before, props_behind, heads_text};
+ghost use Rattle.loop_print.specs.PrintHeads.{size_text, source_text, decl_text, prop_text, local_line, heads_text};
+ghost use Rattle.loop_print.specs.PrintOrder.{line_of, lines_left};
 
 use crate::names::{outside, put_array};
+use crate::order::{Head, Heads};
 use crate::terms::put_term;
-use loop_core::decl::{Decl, DeclKind, Form, PropDecl, PropKind, Size, Source};
+use loop_core::decl::{Decl, DeclKind, Form, LocalDecl, PropKind, Size, Source};
 use loop_core::nest::Term;
 use wave_base::types::{ArrayId, Memory};
 
@@ -151,53 +153,33 @@ fn put_prop(text: &mut Vec<u8>, decls: &[Decl], kind: &PropKind) -> Result<(), M
     }
 }
 
-fn split_first(props: &[PropDecl]) -> Option<(&PropDecl, &[PropDecl])>
-    ensures { MatchOption result (props.now ≡ []) (λ x. props.now ≡ x.0.now ∷ x.1.now) }
+fn put_local(text: &mut Vec<u8>, local: &LocalDecl) -> Result<(), Memory>
+    ensures { OnOk result (text.new.items ≡ text.old.items ++ (local_line local.now).text) }
 {
-    match props {
-        [] => None,
-        [prop, rest @ ..] => Some((prop, rest)),
-    }
-}
-
-/// Puts the properties before a line, and gives those from it on.
-fn put_props_before<'a>(
-    text: &mut Vec<u8>,
-    decls: &[Decl],
-    props: &'a [PropDecl],
-    line: u16,
-) -> Result<&'a [PropDecl], Memory>
-    ensures text { OnOk result (text.new.items ≡ text.old.items ++ props_text decls.now (props_before line props.now)) }
-    ensures rest { IfOk result (λ rest. rest.now ≡ props_behind line props.now) }
-{
-    let mut rest = props;
-    while let Some((prop, after)) = split_first(rest) {
-        if prop.line >= line {
-            return Ok(rest);
-        }
-        put_prop(text, decls, &prop.kind)?;
-        rest = after;
-    }
-    Ok(rest)
-}
-
-fn put_props(text: &mut Vec<u8>, decls: &[Decl], props: &[PropDecl]) -> Result<(), Memory>
-    ensures { OnOk result (text.new.items ≡ text.old.items ++ props_text decls.now props.now) }
-{
-    for prop in props {
-        put_prop(text, decls, &prop.kind)?;
-    }
+    text.extend_from_slice(b"local ")?;
+    text.extend_from_slice(local.name.as_slice())?;
+    text.push(b'\n')?;
     Ok(())
 }
 
-/// Puts the declarations and the properties, in the order of their lines.
-pub fn put_heads(text: &mut Vec<u8>, decls: &[Decl], props: &[PropDecl]) -> Result<(), Memory>
-    ensures { OnOk result (text.new.items ≡ text.old.items ++ heads_text decls.now decls.now props.now) }
+fn put_head(text: &mut Vec<u8>, decls: &[Decl], head: Head<'_>) -> Result<(), Memory>
+    ensures { OnOk result (text.new.items ≡ text.old.items ++ (line_of decls.now head.entry).text) }
 {
-    let mut rest = props;
-    for decl in decls {
-        rest = put_props_before(text, decls, rest, decl.line)?;
-        put_decl(text, decl)?;
+    match head {
+        Head::Declares(decl) => put_decl(text, decl),
+        Head::Keeps(local) => put_local(text, local),
+        Head::States(prop) => put_prop(text, decls, &prop.kind),
     }
-    put_props(text, decls, rest)
+}
+
+/// Puts the declarations, the locals and the properties, in the order of their lines.
+pub fn put_heads(text: &mut Vec<u8>, decls: &[Decl], heads: Heads<'_>) -> Result<(), Memory>
+    ensures { OnOk result (text.new.items ≡ text.old.items ++ heads_text (lines_left decls.now heads.entry)) }
+{
+    let mut rest = heads;
+    while let Some((head, after)) = rest.next() {
+        put_head(text, decls, head)?;
+        rest = after;
+    }
+    Ok(())
 }

@@ -5,5 +5,6 @@ mod exprs;
 mod heads;
 mod items;
 mod names;
+mod order;
 pub mod print;
 mod terms;

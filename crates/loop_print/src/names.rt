@@ -1,10 +1,10 @@
-// The names of arrays and variables in a text.
+// The names of arrays, locals and variables in a text.
 ghost use Rattle.std.specs.Prelude.{◌≡◌, ◌++◌, OnOk, slice_index_or, [], ◌∷◌};
 ghost use Rattle.loop_core.specs.declared.decl.DeclKind.TheVariants.{Matrix};
-ghost use Rattle.loop_print.specs.PrintNames.{Repeated, names_of, array_name, variable_name};
+ghost use Rattle.loop_print.specs.PrintNames.{Repeated, names_of, array_name, local_name, variable_name};
 ghost use Rattle.loop_print.specs.PrintBlocks.{open_blocks};
 
-use loop_core::decl::{Decl, DeclKind, Form};
+use loop_core::decl::{Decl, DeclKind, Form, LocalDecl};
 use loop_core::name::Name;
 use wave_base::types::{ArrayId, Memory};
 
@@ -73,6 +73,16 @@ pub fn put_array(text: &mut Vec<u8>, decls: &[Decl], array: ArrayId) -> Result<(
         }
     }
     Ok(())
+}
+
+/// Puts the name of a local, and nothing where no declaration has its number.
+pub fn put_local(text: &mut Vec<u8>, locals: &[LocalDecl], local: u8) -> Result<(), Memory>
+    ensures { OnOk result (text.new.items ≡ text.old.items ++ local_name locals.now local) }
+{
+    match locals.get(local as usize) {
+        Some(declared) => put_part(text, declared.name.as_slice(), b""),
+        None => Ok(()),
+    }
 }
 
 /// Puts the name of the variable of the innermost loop at a line, and nothing where there is none.

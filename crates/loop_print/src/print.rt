@@ -6,6 +6,7 @@ ghost use Rattle.loop_print.specs.PrintText.{nest_text};
 
 use crate::heads::put_heads;
 use crate::items::put_loop;
+use crate::order::heads_of;
 use loop_core::nest::Nest;
 use std::alloc::Global;
 use wave_base::types::Memory;
@@ -15,14 +16,14 @@ fn bytes_of(alloc: Global, nest: &Nest) -> Result<Vec<u8>, Memory>
     ensures { IfOk result (λ text. text.items ≡ nest_text nest.now) }
 {
     let mut text = Vec::new(alloc);
-    put_heads(&mut text, nest.decls.as_slice(), nest.props.as_slice())?;
+    put_heads(&mut text, nest.decls.as_slice(), heads_of(nest))?;
     put_loop(&mut text, nest)?;
     Ok(text)
 }
 
-/// The canonical text of a nest, which is ASCII and ends with a line feed. Declarations and
-/// properties stand in the order of their lines. It fails out of memory alone. The work is
-/// linear in the length of the text, and each array's name is looked up among the declarations.
+/// The canonical text of a nest, which is ASCII and ends with a line feed. Declarations,
+/// locals and properties stand in the order of their lines. It fails out of memory alone. The work
+/// is linear in the length of the text, and each array's name is looked up among the declarations.
 #[tactic(auto, using(crate::proofs::PrintNestAscii::nest_utf8))]
 pub fn print(alloc: Global, nest: &Nest) -> Result<String, Memory>
     requires { HasNames nest.now }

@@ -2,16 +2,14 @@
 use Rattle.std.proofs.Common.{◌≡◌, ℕ, ◌+◌, ◌≤◌, ◌<◌, Bool, true, false, min, nat_lt, nat_le, if◌then◌else◌, List, [], ◌∷◌, length, Option, Some, None, refl, sym, ap, subst, ◌∙◌, arith}
 use Rattle.std.specs.List.{filter}
 use Rattle.std.proofs.lemmas.Bool.Decides.{nat_tests}
-use Rattle.text_base.specs.Lines.{lines, first_line, after_line}
-use Rattle.text_base.proofs.LineLaws.{lines_first}
 use Rattle.loop_lines.specs.declared.line.Line.{Line}
 use Rattle.loop_lines.specs.Fitting.{text_line}
 use Rattle.loop_lines.specs.Reading.{or_else}
 use Rattle.loop_lines.specs.Words.{either}
 use Rattle.loop_syntax.specs.declared.numbered.Numbered.{Numbered}
 use Rattle.loop_syntax.specs.declared.refusal.LimitKind.{LimitKind}
-use Rattle.loop_syntax.specs.declared.refusal.LimitKind.TheVariants.{Lines, Arrays, Depth, References}
-use Rattle.loop_syntax.specs.Numbered.{worded, before, numbered_from, Follows}
+use Rattle.loop_syntax.specs.declared.refusal.LimitKind.TheVariants.{Lines, Arrays, Locals, Depth, References}
+use Rattle.loop_syntax.specs.Numbered.{worded, before, numbered_from}
 use Rattle.loop_syntax.specs.Scope.{Scope, empty, scope_after, use_of, variables}
 use Rattle.loop_syntax.specs.Resolved.{number_of}
 use Rattle.loop_syntax.specs.Counts.{is_written, data_arrays, passed, constant_limit, scope_limit, limits_at, references, first_passed, is_within, lines_limit, first_limit, targets}
@@ -76,19 +74,23 @@ passed_none false kind e = refl
 -- what a line that passes no limit leaves
 pub record Keeps (s : Scope) (count : ℕ) : Type 0 where
   pub arrays : s.arrays ≤ 64
+  pub locals : s.locals ≤ 16
   pub loops : length (variables s.blocks) ≤ 6
   pub references : count ≤ 16
 
 pub keeps : (l : Line) (s : Scope) (count : ℕ) → limits_at l s count ≡ None → Keeps s count
 keeps l s count e =
     let deep = either (passed (nat_lt 6 (length (variables s.blocks))) Depth) (passed (nat_lt 16 count) References) in
+    let many = either (passed (nat_lt 16 s.locals) Locals) deep in
     let a = either_none (constant_limit l) (scope_limit s count) e in
-    let b = either_none (passed (nat_lt 64 s.arrays) Arrays) deep a.1 in
-    let c = either_none (passed (nat_lt 6 (length (variables s.blocks))) Depth) (passed (nat_lt 16 count) References) b.1 in
+    let b = either_none (passed (nat_lt 64 s.arrays) Arrays) many a.1 in
+    let d = either_none (passed (nat_lt 16 s.locals) Locals) deep b.1 in
+    let c = either_none (passed (nat_lt 6 (length (variables s.blocks))) Depth) (passed (nat_lt 16 count) References) d.1 in
     let f : nat_lt 64 s.arrays ≡ false = passed_none (nat_lt 64 s.arrays) Arrays b.0 in
     let g : nat_lt 6 (length (variables s.blocks)) ≡ false = passed_none (nat_lt 6 (length (variables s.blocks))) Depth c.0 in
     let h : nat_lt 16 count ≡ false = passed_none (nat_lt 16 count) References c.1 in
-    record { arrays = grind (arith, nat_tests, f); loops = grind (arith, nat_tests, g); references = grind (arith, nat_tests, h) }
+    let k : nat_lt 16 s.locals ≡ false = passed_none (nat_lt 16 s.locals) Locals d.0 in
+    record { arrays = grind (arith, nat_tests, f); locals = grind (arith, nat_tests, k); loops = grind (arith, nat_tests, g); references = grind (arith, nat_tests, h) }
 
 abbrev then_passed : ℕ → Option LimitKind → Option (ℕ × LimitKind) → Option (ℕ × LimitKind)
 then_passed n limit more = or_else limit (λ kind. Some (n, kind)) more
@@ -121,7 +123,7 @@ few_from written s count (l ∷ ls) b e =
     let so_far = count + references written s l.line in
     let t = limits_first written s count l ls b.0 e in
     let k = keeps l.line behind so_far t.0 in
-    (omega (arith, b.0), k.arrays, k.loops, few_from written behind so_far ls b.1 t.1)
+    (omega (arith, b.0), k.arrays, k.locals, k.loops, few_from written behind so_far ls b.1 t.1)
 
 abbrev past_lines : Bool → Option (ℕ × LimitKind)
 past_lines b = if b then Some (401, Lines) else None
@@ -141,28 +143,7 @@ limits_of ls e =
 pub few : (ls : List (List ℕ)) → first_limit (length ls) (numbered_from 1 ls) ≡ None → AreFew empty (numbered_from 1 ls)
 few ls e = let a = limits_of ls e in few_from (targets empty (numbered_from 1 ls)) empty 0 (numbered_from 1 ls) a.1 a.0
 
--- ---- the lines of a text, counted
-
-pub a_line_less : (count total : ℕ) (s after : List ℕ) → 0 < length s → after ≡ after_line s → count + length (lines s) ≡ total → count + 1 + length (lines after) ≡ total
-a_line_less count total [] after some is h = absurd (omega (arith, some))
-a_line_less count total (b ∷ s) after some is h =
-    let first : length (lines (b ∷ s)) ≡ length (first_line (b ∷ s) ∷ lines (after_line (b ∷ s))) = ap length (lines_first b s) in
-    let rest : length (lines after) ≡ length (lines (after_line (b ∷ s))) = ap (λ (l : List ℕ). length (lines l)) is in
-    omega (arith, first, rest, h)
-
-pub a_line : (limit count total : ℕ) (s : List ℕ) → 0 < length s → count ≡ limit → count + length (lines s) ≡ total → true ≡ nat_lt limit total
-a_line limit count total s some is h =
-    let more = a_line_less count total s (after_line s) some refl h in
-    grind (arith, nat_tests, more)
-
 -- ---- the first limit, line by line
-
--- a line after line 400 comes next
-pub past : (n : ℕ) (before after : List Numbered) (o : Option Numbered) (l : Numbered) → Rise n before → Follows before o after → o ≡ Some l → 400 < l.number → filter is_within before ≡ []
-past n before after o l rise follows is far =
-    let here : before ≡ l ∷ after = subst (λ (o : Option Numbered). Follows before o after) is follows in
-    let r : Rise n (l ∷ after) = subst (Rise n) here rise in
-    ap (filter is_within) here ∙ none_within l.number (l ∷ after) far (omega arith, r.1)
 
 filter_same : {X : Type 0} (p q : X → Bool) → ((x : X) → p x ≡ q x) → (xs : List X) → filter p xs ≡ filter q xs
 filter_same p q same [] = refl
@@ -178,7 +159,7 @@ capped n = grind (arith, nat_tests)
 
 capped_limit : (l : Line) (s : Scope) (n : ℕ) → limits_at l s (min 17 n) ≡ limits_at l s n
 capped_limit l s n =
-    ap (λ (b : Bool). either (constant_limit l) (either (passed (nat_lt 64 s.arrays) Arrays) (either (passed (nat_lt 6 (length (variables s.blocks))) Depth) (passed b References)))) (capped n)
+    ap (λ (b : Bool). either (constant_limit l) (either (passed (nat_lt 64 s.arrays) Arrays) (either (passed (nat_lt 16 s.locals) Locals) (either (passed (nat_lt 6 (length (variables s.blocks))) Depth) (passed b References))))) (capped n)
 
 -- what a step of the count says
 pub record Stepped (flags : List Bool) (s : Scope) (count : ℕ) (l : Numbered) (behind : Scope) (counted : ℕ) (limit : Option LimitKind) : Type 0 where
@@ -192,11 +173,10 @@ limit_is flags written s behind count counted l limit are step =
     let same = same_count flags written s l.line are in
     step.limited ∙ ap (limits_at l.line (scope_after s l)) step.counts ∙ capped_limit l.line (scope_after s l) (count + flagged flags s (data_arrays l.line)) ∙ ap (λ (r : ℕ). limits_at l.line (scope_after s l) (count + r)) same
 
-pub passes : (flags : List Bool) (written : List ℕ) (s behind : Scope) (count counted : ℕ) (before after : List Numbered) (o : Option Numbered) (l : Numbered) (limit : Option LimitKind) (kind : LimitKind) (total : Option (ℕ × LimitKind))
-    → AreFlagged flags written → Follows before o after → o ≡ Some l → l.number ≤ 400 → Stepped flags s count l behind counted limit → limit ≡ Some kind
+pub passes : (flags : List Bool) (written : List ℕ) (s behind : Scope) (count counted : ℕ) (before after : List Numbered) (l : Numbered) (limit : Option LimitKind) (kind : LimitKind) (total : Option (ℕ × LimitKind))
+    → AreFlagged flags written → before ≡ l ∷ after → l.number ≤ 400 → Stepped flags s count l behind counted limit → limit ≡ Some kind
     → first_passed written s count (filter is_within before) ≡ total → Some (l.number, kind) ≡ total
-passes flags written s behind count counted before after o l limit kind total are follows is near step some h =
-    let here : before ≡ l ∷ after = subst (λ (o : Option Numbered). Follows before o after) is follows in
+passes flags written s behind count counted before after l limit kind total are here near step some h =
     let more = first_passed written (scope_after s l) (count + references written s l.line) (filter is_within after) in
     let found : Some kind ≡ limits_at l.line (scope_after s l) (count + references written s l.line) = sym some ∙ limit_is flags written s behind count counted l limit are step in
     ap (λ (x : Option LimitKind). then_passed l.number x more) found ∙ sym (first_is written s count l after near) ∙ ap (λ (x : List Numbered). first_passed written s count (filter is_within x)) (sym here) ∙ h
@@ -208,11 +188,10 @@ kept_on flags s behind count counted l limit step none =
 exact : (m n : ℕ) → m ≡ min 17 n → m ≤ 16 → n ≡ m
 exact m n is few = omega (arith, is, few)
 
-pub goes_on : (flags : List Bool) (written : List ℕ) (s behind : Scope) (count counted : ℕ) (before after : List Numbered) (o : Option Numbered) (l : Numbered) (limit : Option LimitKind) (total : Option (ℕ × LimitKind))
-    → AreFlagged flags written → Follows before o after → o ≡ Some l → l.number ≤ 400 → Stepped flags s count l behind counted limit → limit ≡ None
+pub goes_on : (flags : List Bool) (written : List ℕ) (s behind : Scope) (count counted : ℕ) (before after : List Numbered) (l : Numbered) (limit : Option LimitKind) (total : Option (ℕ × LimitKind))
+    → AreFlagged flags written → before ≡ l ∷ after → l.number ≤ 400 → Stepped flags s count l behind counted limit → limit ≡ None
     → first_passed written s count (filter is_within before) ≡ total → first_passed written behind counted (filter is_within after) ≡ total
-goes_on flags written s behind count counted before after o l limit total are follows is near step none h =
-    let here : before ≡ l ∷ after = subst (λ (o : Option Numbered). Follows before o after) is follows in
+goes_on flags written s behind count counted before after l limit total are here near step none h =
     let count2 = count + references written s l.line in
     let more = first_passed written (scope_after s l) count2 (filter is_within after) in
     let found : None ≡ limits_at l.line (scope_after s l) count2 = sym none ∙ limit_is flags written s behind count counted l limit are step in
@@ -221,3 +200,9 @@ goes_on flags written s behind count counted before after o l limit total are fo
     ap (λ (t : Scope). first_passed written t counted (filter is_within after)) step.moved
     ∙ ap (λ (c : ℕ). first_passed written (scope_after s l) c (filter is_within after)) (sym counts)
     ∙ ap (λ (x : Option LimitKind). then_passed l.number x more) found ∙ sym (first_is written s count l after near) ∙ ap (λ (x : List Numbered). first_passed written s count (filter is_within x)) (sym here) ∙ h
+
+-- a line after line 400 is skipped
+pub skipped : (before after : List Numbered) (l : Numbered) → before ≡ l ∷ after → 400 < l.number → filter is_within after ≡ filter is_within before
+skipped before after l here far =
+    let out : nat_le l.number 400 ≡ false = grind (arith, nat_tests, far) in
+    rw (here, out) refl

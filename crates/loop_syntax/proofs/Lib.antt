@@ -1,6 +1,7 @@
 pub mod NestLaws
 pub mod ScopeLaws
 pub mod NumberedLaws
+pub mod CutLaws
 pub mod StageLaws
 pub mod FewLaws
 pub mod NarrowLaws
@@ -10,3 +11,5 @@ pub mod OneNest
 pub mod ShallowLaws
 pub mod NameLaws
 pub mod ArrayLaws
+pub mod Accepted
+pub mod TextLaws

@@ -4,6 +4,7 @@ use Rattle.std.proofs.lemmas.List.{append-nil}
 use Rattle.std.specs.List.{list_all, flat_map}
 use Rattle.std.proofs.lemmas.List.Folds.{list_all-append}
 use Rattle.loop_core.specs.declared.decl.Decl.{Decl}
+use Rattle.loop_core.specs.declared.decl.LocalDecl.{LocalDecl}
 use Rattle.loop_core.specs.declared.nest.Item.{Item}
 use Rattle.loop_core.specs.declared.nest.Item.TheOpen.{Item-F}
 use Rattle.loop_core.specs.declared.nest.Item.TheViews.{roll-Item}
@@ -20,8 +21,8 @@ use Rattle.loop_syntax.specs.declared.items.Head.TheVariants as heads
 use Rattle.loop_syntax.specs.declared.numbered.Numbered.{Numbered}
 use Rattle.loop_syntax.specs.Numbered.{worded, before, numbered_from, numbered}
 use Rattle.loop_syntax.specs.Scope.{Scope, empty, scope_after}
-use Rattle.loop_syntax.specs.Nesting.{Mark, Opens, Sets, Ends, joined, marks_step, item_marks, marks}
-use Rattle.loop_syntax.specs.Resolved.{declaration, mark, outer}
+use Rattle.loop_syntax.specs.Nesting.{Mark, Opens, Sets, Keeps, Ends, joined, marks_step, item_marks, marks}
+use Rattle.loop_syntax.specs.Resolved.{declaration, local, mark, outer}
 use Rattle.loop_syntax.specs.TextNest.{gathered, IsNestOf}
 use Rattle.loop_lines.proofs.Bools.{and_left, and_both}
 
@@ -50,16 +51,40 @@ one_declared : (n : ℕ) (l : Line) (rest : List Decl) → IsPlainLine l → all
 one_declared n (lines.Matrix name form) rest p h = and_both (is_plain name) (all_plain (names_of rest)) p h
 one_declared n (lines.Index name size) rest p h = and_both (is_plain name) (all_plain (names_of rest)) p h
 one_declared n (lines.Vector name size source) rest p h = and_both (is_plain name) (all_plain (names_of rest)) p h
+one_declared n (lines.Local name) rest p h = h
 one_declared n (lines.Prop prop) rest p h = h
 one_declared n (lines.Loop name) rest p h = h
 one_declared n (lines.For name lo hi) rest p h = h
 one_declared n (lines.When rel left right) rest p h = h
 one_declared n (lines.Set array at value) rest p h = h
+one_declared n (lines.Keep name value) rest p h = h
 one_declared n lines.End rest p h = h
 
 declared_plain : (s : Scope) (ls : List Numbered) → ArePlain ls → all_plain (names_of (gathered (λ s l. declaration l.number l.line) s ls)) ≡ true
 declared_plain s [] h = refl
 declared_plain s (l ∷ ls) (p, h) = one_declared l.number l.line (gathered (λ s l. declaration l.number l.line) (scope_after s l) ls) p (declared_plain (scope_after s l) ls h)
+
+-- ---- locals
+
+abbrev local_names : List LocalDecl → List (List ℕ)
+local_names locals = map (λ l. l.name) locals
+
+one_local : (n : ℕ) (l : Line) (rest : List LocalDecl) → IsPlainLine l → all_plain (local_names rest) ≡ true → all_plain (local_names (local n l ++ rest)) ≡ true
+one_local n (lines.Local name) rest p h = and_both (is_plain name) (all_plain (local_names rest)) p h
+one_local n (lines.Matrix name form) rest p h = h
+one_local n (lines.Index name size) rest p h = h
+one_local n (lines.Vector name size source) rest p h = h
+one_local n (lines.Prop prop) rest p h = h
+one_local n (lines.Loop name) rest p h = h
+one_local n (lines.For name lo hi) rest p h = h
+one_local n (lines.When rel left right) rest p h = h
+one_local n (lines.Set array at value) rest p h = h
+one_local n (lines.Keep name value) rest p h = h
+one_local n lines.End rest p h = h
+
+locals_plain : (s : Scope) (ls : List Numbered) → ArePlain ls → all_plain (local_names (gathered (λ s l. local l.number l.line) s ls)) ≡ true
+locals_plain s [] h = refl
+locals_plain s (l ∷ ls) (p, h) = one_local l.number l.line (gathered (λ s l. local l.number l.line) (scope_after s l) ls) p (locals_plain (scope_after s l) ls h)
 
 -- ---- the outer loop's variable
 
@@ -71,10 +96,12 @@ one_outer n (lines.Loop name) rest p h = and_both (is_plain name) (all_plain (ou
 one_outer n (lines.Matrix name form) rest p h = h
 one_outer n (lines.Index name size) rest p h = h
 one_outer n (lines.Vector name size source) rest p h = h
+one_outer n (lines.Local name) rest p h = h
 one_outer n (lines.Prop prop) rest p h = h
 one_outer n (lines.For name lo hi) rest p h = h
 one_outer n (lines.When rel left right) rest p h = h
 one_outer n (lines.Set array at value) rest p h = h
+one_outer n (lines.Keep name value) rest p h = h
 one_outer n lines.End rest p h = h
 
 outer_plain : (s : Scope) (ls : List Numbered) → ArePlain ls → all_plain (outer_names (gathered (λ s l. outer l.number l.line) s ls)) ≡ true
@@ -88,6 +115,7 @@ mark_names [] = []
 mark_names (Opens line (heads.For name lo hi) ∷ ms) = name ∷ mark_names ms
 mark_names (Opens line (heads.When rel left right) ∷ ms) = mark_names ms
 mark_names (Sets line array at value ∷ ms) = mark_names ms
+mark_names (Keeps line local value ∷ ms) = mark_names ms
 mark_names (Ends ∷ ms) = mark_names ms
 
 one_mark : (s : Scope) (n : ℕ) (l : Line) (rest : List Mark) → IsPlainLine l → all_plain (mark_names rest) ≡ true → all_plain (mark_names (mark s n l ++ rest)) ≡ true
@@ -95,10 +123,12 @@ one_mark s n (lines.For name lo hi) rest p h = and_both (is_plain name) (all_pla
 one_mark s n (lines.Matrix name form) rest p h = h
 one_mark s n (lines.Index name size) rest p h = h
 one_mark s n (lines.Vector name size source) rest p h = h
+one_mark s n (lines.Local name) rest p h = h
 one_mark s n (lines.Prop prop) rest p h = h
 one_mark s n (lines.Loop name) rest p h = h
 one_mark s n (lines.When rel left right) rest p h = h
 one_mark s n (lines.Set array at value) rest p h = h
+one_mark s n (lines.Keep name value) rest p h = h
 one_mark s n lines.End rest p h = h
 
 marks_plain : (s : Scope) (ls : List Numbered) → ArePlain ls → all_plain (mark_names (gathered (λ s l. mark s l.number l.line) s ls)) ≡ true
@@ -110,6 +140,7 @@ mark_names_append [] ys = refl
 mark_names_append (Opens line (heads.For name lo hi) ∷ xs) ys = ap (λ (l : List (List ℕ)). name ∷ l) (mark_names_append xs ys)
 mark_names_append (Opens line (heads.When rel left right) ∷ xs) ys = mark_names_append xs ys
 mark_names_append (Sets line array at value ∷ xs) ys = mark_names_append xs ys
+mark_names_append (Keeps line local value ∷ xs) ys = mark_names_append xs ys
 mark_names_append (Ends ∷ xs) ys = mark_names_append xs ys
 
 abbrev names_on : List BodyLine → List (List ℕ)
@@ -151,6 +182,9 @@ item_case (Item-F.When line rel left right body) around =
 item_case (Item-F.Set line array at value) around =
     let x : Item-F Item = Item-F.Set line array at value in
     ap (λ (f : List Loop → List BodyLine). names_on (f around)) (fold-roll-Item (List Loop → List BodyLine) lines_step x) ∙ sym (ap mark_names (fold-roll-Item (List Mark) marks_step x))
+item_case (Item-F.Keep line local value) around =
+    let x : Item-F Item = Item-F.Keep line local value in
+    ap (λ (f : List Loop → List BodyLine). names_on (f around)) (fold-roll-Item (List Loop → List BodyLine) lines_step x) ∙ sym (ap mark_names (fold-roll-Item (List Mark) marks_step x))
 
 item_names : (item : Item) → AreNames item
 item_names = ind-Item AreNames (λ x y is. subst (λ z. AreNames (roll-Item z)) is (item_case y))
@@ -166,7 +200,9 @@ body_names (i ∷ is) around =
 pub has_names : (ls : List (List ℕ)) (nest : Nest) → IsNestOf (numbered ls) nest → HasNames nest
 has_names ls nest of_text =
     let plain = lines_plain 1 ls in
-    let decls : all_plain (declared_names nest) ≡ true = ap (λ (ds : List Decl). all_plain (names_of ds)) of_text.decls ∙ declared_plain empty (numbered ls) plain in
+    let arrays : all_plain (names_of nest.decls) ≡ true = ap (λ (ds : List Decl). all_plain (names_of ds)) of_text.decls ∙ declared_plain empty (numbered ls) plain in
+    let locals : all_plain (local_names nest.locals) ≡ true = ap (λ (ks : List LocalDecl). all_plain (local_names ks)) of_text.locals ∙ locals_plain empty (numbered ls) plain in
+    let decls : all_plain (declared_names nest) ≡ true = list_all-append is_plain (names_of nest.decls) (local_names nest.locals) ∙ and_both (all_plain (names_of nest.decls)) (all_plain (local_names nest.locals)) arrays locals in
     let loops : all_plain (outer_names ((nest.line, nest.name) ∷ [])) ≡ true = ap (λ (os : List (ℕ × List ℕ)). all_plain (outer_names os)) (sym of_text.loop) ∙ outer_plain empty (numbered ls) plain in
     let name : is_plain nest.name ≡ true = and_left (is_plain nest.name) true loops in
     let all : all_plain (mark_names (marks nest.body ++ Ends ∷ [])) ≡ true = ap (λ (ms : List Mark). all_plain (mark_names ms)) of_text.body ∙ marks_plain empty (numbered ls) plain in

@@ -2,6 +2,7 @@
 use Rattle.std.proofs.Common.{◌≡◌, ℕ, List, [], ◌∷◌, ◌++◌, map, sym, ap, subst, ◌∙◌, append_assoc}
 use Rattle.std.proofs.lemmas.List.{append-nil}
 use Rattle.loop_core.specs.declared.decl.Decl.{Decl}
+use Rattle.loop_core.specs.declared.decl.LocalDecl.{LocalDecl}
 use Rattle.loop_core.specs.declared.decl.PropDecl.{PropDecl}
 use Rattle.loop_core.specs.declared.nest.Item.{Item}
 use Rattle.loop_core.specs.declared.nest.Item.TheOpen.{Item-F}
@@ -12,7 +13,7 @@ use Rattle.loop_syntax.specs.declared.numbered.Numbered.{Numbered}
 use Rattle.loop_syntax.specs.declared.items.Head.{Head}
 use Rattle.loop_syntax.specs.declared.items.Head.TheVariants as heads
 use Rattle.loop_syntax.specs.declared.items.OpenBlock.{OpenBlock}
-use Rattle.loop_syntax.specs.Nesting.{Mark, Opens, Sets, Ends, joined, marks_step, item_marks, marks}
+use Rattle.loop_syntax.specs.Nesting.{Mark, Opens, Sets, Keeps, Ends, joined, marks_step, item_marks, marks}
 use Rattle.loop_syntax.specs.TextNest.{IsNestOf}
 
 -- open blocks, the innermost first, and the items in the innermost
@@ -31,6 +32,7 @@ ended (o ∷ os) items = record { around = os; items = o.before ++ made o.line o
 abbrev after : State → Mark → State
 after s (Opens line head) = record { around = record { line = line; head = head; before = s.items } ∷ s.around; items = [] }
 after s (Sets line array at value) = record { around = s.around; items = s.items ++ roll-Item (Item-F.Set line array at value) ∷ [] }
+after s (Keeps line local value) = record { around = s.around; items = s.items ++ roll-Item (Item-F.Keep line local value) ∷ [] }
 after s Ends = ended s.around s.items
 
 abbrev after_all : State → List Mark → State
@@ -73,6 +75,8 @@ item_case (Item-F.When line rel left right body) os before rest =
     ap (λ (l : List Mark). after_all (with os before) (l ++ rest)) (fold-roll-Item (List Mark) marks_step x) ∙ block_built line (heads.When rel left right) body os before rest
 item_case (Item-F.Set line array at value) os before rest =
     ap (λ (l : List Mark). after_all (with os before) (l ++ rest)) (fold-roll-Item (List Mark) marks_step (Item-F.Set line array at value))
+item_case (Item-F.Keep line local value) os before rest =
+    ap (λ (l : List Mark). after_all (with os before) (l ++ rest)) (fold-roll-Item (List Mark) marks_step (Item-F.Keep line local value))
 
 item_built : (item : Item) → IsBuilt item
 item_built = ind-Item IsBuilt (λ x y is. subst (λ z. IsBuilt (roll-Item z)) is (item_case y))
@@ -94,8 +98,8 @@ built_again items = ap (λ (s : State). s.items) (body_built items [] [] (Ends �
 same_body : (a b : List Item) → marks a ++ Ends ∷ [] ≡ marks b ++ Ends ∷ [] → a ≡ b
 same_body a b e = sym (built_again a) ∙ ap items_of e ∙ built_again b
 
-abbrev nest_of : List Decl → List PropDecl → ℕ × List ℕ → List Item → Nest
-nest_of decls props loop body = record { decls = decls; props = props; line = loop.0; name = loop.1; body = body }
+abbrev nest_of : List Decl → List PropDecl → List LocalDecl → ℕ × List ℕ → List Item → Nest
+nest_of decls props locals loop body = record { decls = decls; props = props; locals = locals; line = loop.0; name = loop.1; body = body }
 
 abbrev first_of : ℕ × List ℕ → List (ℕ × List ℕ) → ℕ × List ℕ
 first_of d [] = d
@@ -104,7 +108,8 @@ first_of d (x ∷ xs) = x
 pub one_nest : (ls : List Numbered) (a b : Nest) → IsNestOf ls a → IsNestOf ls b → a ≡ b
 one_nest ls a b x y =
     let loop : (a.line, a.name) ≡ (b.line, b.name) = ap (first_of (a.line, a.name)) (sym x.loop ∙ y.loop) in
-    ap (λ d. nest_of d a.props (a.line, a.name) a.body) (x.decls ∙ sym y.decls)
-    ∙ ap (λ p. nest_of b.decls p (a.line, a.name) a.body) (x.props ∙ sym y.props)
-    ∙ ap (λ l. nest_of b.decls b.props l a.body) loop
-    ∙ ap (nest_of b.decls b.props (b.line, b.name)) (same_body a.body b.body (x.body ∙ sym y.body))
+    ap (λ d. nest_of d a.props a.locals (a.line, a.name) a.body) (x.decls ∙ sym y.decls)
+    ∙ ap (λ p. nest_of b.decls p a.locals (a.line, a.name) a.body) (x.props ∙ sym y.props)
+    ∙ ap (λ k. nest_of b.decls b.props k (a.line, a.name) a.body) (x.locals ∙ sym y.locals)
+    ∙ ap (λ l. nest_of b.decls b.props b.locals l a.body) loop
+    ∙ ap (nest_of b.decls b.props b.locals (b.line, b.name)) (same_body a.body b.body (x.body ∙ sym y.body))

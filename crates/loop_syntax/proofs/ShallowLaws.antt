@@ -14,7 +14,7 @@ use Rattle.loop_lines.specs.declared.block.Block.{Block}
 use Rattle.loop_lines.specs.declared.block.Block.TheVariants.{Repeated, Guarded}
 use Rattle.loop_syntax.specs.Scope.{Scope, empty, variables, outer_blocks, scope_behind}
 use Rattle.loop_syntax.specs.Resolved.{mark}
-use Rattle.loop_syntax.specs.Nesting.{Mark, Opens, Sets, Ends, joined, marks_step, item_marks, marks}
+use Rattle.loop_syntax.specs.Nesting.{Mark, Opens, Sets, Keeps, Ends, joined, marks_step, item_marks, marks}
 use Rattle.loop_syntax.specs.Stages.{Above, Within, AreNested, AreFew}
 use Rattle.loop_syntax.specs.TextNest.{gathered, IsNestOf}
 
@@ -30,6 +30,7 @@ Shallow bs [] = Unit {0}
 Shallow bs (Opens line (heads.For name lo hi) ∷ ms) = (loops bs + 1 ≤ 5) × Shallow (true ∷ bs) ms
 Shallow bs (Opens line (heads.When rel left right) ∷ ms) = Shallow (false ∷ bs) ms
 Shallow bs (Sets line array at value ∷ ms) = Shallow bs ms
+Shallow bs (Keeps line local value ∷ ms) = Shallow bs ms
 Shallow [] (Ends ∷ ms) = Unit {0}
 Shallow (b ∷ bs) (Ends ∷ ms) = Shallow bs ms
 
@@ -76,6 +77,10 @@ item_case (Item-F.When line rel left right body) bs rest few h =
     (subst (λ (d : ℕ). d + loops bs ≤ 5) (sym (fold-roll-Item ℕ depth_step x)) r.0, r.1)
 item_case (Item-F.Set line array at value) bs rest few h =
     let x : Item-F Item = Item-F.Set line array at value in
+    let g = subst (λ (l : List Mark). Shallow bs (l ++ rest)) (fold-roll-Item (List Mark) marks_step x) h in
+    (subst (λ (d : ℕ). d + loops bs ≤ 5) (sym (fold-roll-Item ℕ depth_step x)) (omega (arith, few)), g)
+item_case (Item-F.Keep line local value) bs rest few h =
+    let x : Item-F Item = Item-F.Keep line local value in
     let g = subst (λ (l : List Mark). Shallow bs (l ++ rest)) (fold-roll-Item (List Mark) marks_step x) h in
     (subst (λ (d : ℕ). d + loops bs ≤ 5) (sym (fold-roll-Item ℕ depth_step x)) (omega (arith, few)), g)
 
@@ -139,15 +144,17 @@ inside : (bs : List Bool) (s : Scope) (n : ℕ) (l : Line) (ls : List Numbered) 
 inside bs s n (lines.Matrix name form) ls more nested few is = absurd cc
 inside bs s n (lines.Index name size) ls more nested few is = absurd cc
 inside bs s n (lines.Vector name size source) ls more nested few is = absurd cc
+inside bs s n (lines.Local name) ls more nested few is = absurd cc
 inside bs s n (lines.Prop prop) ls more nested few is = absurd cc
 inside bs s n (lines.Loop name) ls more nested few is = absurd cc
 inside bs s n (lines.For name lo hi) ls more nested few is =
-    (deeper s bs is (omega (arith, few.2)), more (true ∷ bs) (scope_behind s n (lines.For name lo hi)) (moved_to (length bs + 1) (length (true ∷ bs)) ls (omega arith) nested) few.3 (ap (λ (l : List Bool). true ∷ l) is))
+    (deeper s bs is (omega (arith, few.3)), more (true ∷ bs) (scope_behind s n (lines.For name lo hi)) (moved_to (length bs + 1) (length (true ∷ bs)) ls (omega arith) nested) few.4 (ap (λ (l : List Bool). true ∷ l) is))
 inside bs s n (lines.When rel left right) ls more nested few is =
-    more (false ∷ bs) (scope_behind s n (lines.When rel left right)) (moved_to (length bs + 1) (length (false ∷ bs)) ls (omega arith) nested) few.3 (ap (λ (l : List Bool). false ∷ l) is)
-inside bs s n (lines.Set array at value) ls more nested few is = more bs s nested few.3 is
+    more (false ∷ bs) (scope_behind s n (lines.When rel left right)) (moved_to (length bs + 1) (length (false ∷ bs)) ls (omega arith) nested) few.4 (ap (λ (l : List Bool). false ∷ l) is)
+inside bs s n (lines.Set array at value) ls more nested few is = more bs s nested few.4 is
+inside bs s n (lines.Keep name value) ls more nested few is = more bs s nested few.4 is
 inside [] s n lines.End ls more nested few is = tt
-inside (b ∷ bs) s n lines.End ls more nested few is = more bs (scope_behind s n lines.End) nested few.3 (kinds_outer s.blocks ∙ ap tail is)
+inside (b ∷ bs) s n lines.End ls more nested few is = more bs (scope_behind s n lines.End) nested few.4 (kinds_outer s.blocks ∙ ap tail is)
 
 all_inside : (ls : List Numbered) (bs : List Bool) (s : Scope) → Goal bs s ls
 all_inside [] bs s nested few is = tt
@@ -155,14 +162,16 @@ all_inside (l ∷ ls) bs s nested few is = inside bs s l.number l.line ls (all_i
 
 above : (s : Scope) (n : ℕ) (l : Line) (ls : List Numbered) → ((t : Scope) → AreNested Above ls → AreFew t ls → t.blocks ≡ [] → Shallow [] (given t ls))
     → AreNested Above (record { number = n; line = l } ∷ ls) → AreFew s (record { number = n; line = l } ∷ ls) → s.blocks ≡ [] → Shallow [] (given s (record { number = n; line = l } ∷ ls))
-above s n (lines.Matrix name form) ls more nested few is = more (scope_behind s n (lines.Matrix name form)) nested few.3 is
-above s n (lines.Index name size) ls more nested few is = more (scope_behind s n (lines.Index name size)) nested few.3 is
-above s n (lines.Vector name size source) ls more nested few is = more (scope_behind s n (lines.Vector name size source)) nested few.3 is
-above s n (lines.Prop prop) ls more nested few is = more s nested few.3 is
-above s n (lines.Loop name) ls more nested few is = all_inside ls [] (scope_behind s n (lines.Loop name)) nested few.3 (ap (λ (bs : List Block). true ∷ kinds bs) is)
+above s n (lines.Matrix name form) ls more nested few is = more (scope_behind s n (lines.Matrix name form)) nested few.4 is
+above s n (lines.Index name size) ls more nested few is = more (scope_behind s n (lines.Index name size)) nested few.4 is
+above s n (lines.Vector name size source) ls more nested few is = more (scope_behind s n (lines.Vector name size source)) nested few.4 is
+above s n (lines.Local name) ls more nested few is = more (scope_behind s n (lines.Local name)) nested few.4 is
+above s n (lines.Prop prop) ls more nested few is = more s nested few.4 is
+above s n (lines.Loop name) ls more nested few is = all_inside ls [] (scope_behind s n (lines.Loop name)) nested few.4 (ap (λ (bs : List Block). true ∷ kinds bs) is)
 above s n (lines.For name lo hi) ls more nested few is = absurd cc
 above s n (lines.When rel left right) ls more nested few is = absurd cc
 above s n (lines.Set array at value) ls more nested few is = absurd cc
+above s n (lines.Keep name value) ls more nested few is = absurd cc
 above s n lines.End ls more nested few is = absurd cc
 
 all_above : (ls : List Numbered) (s : Scope) → AreNested Above ls → AreFew s ls → s.blocks ≡ [] → Shallow [] (given s ls)

@@ -27,6 +27,8 @@ heading false (lines.Index name size) q e = ap lifted e
 heading true (lines.Index name size) q e = ap lifted e
 heading false (lines.Vector name size source) q e = ap lifted e
 heading true (lines.Vector name size source) q e = ap lifted e
+heading false (lines.Local name) q e = ap lifted e
+heading true (lines.Local name) q e = ap lifted e
 heading false (lines.Prop prop) q e = ap lifted e
 heading true (lines.Prop prop) q e = ap lifted e
 heading true (lines.Loop name) q e = ap lifted e
@@ -37,6 +39,8 @@ heading false (lines.When rel left right) q e = absurd cc
 heading true (lines.When rel left right) q e = absurd cc
 heading false (lines.Set array at value) q e = absurd cc
 heading true (lines.Set array at value) q e = absurd cc
+heading false (lines.Keep name value) q e = absurd cc
+heading true (lines.Keep name value) q e = absurd cc
 heading false lines.End q e = absurd cc
 heading true lines.End q e = absurd cc
 
@@ -44,11 +48,13 @@ body : (k : ℕ) (l : Line) (q : Place) → body_after k l ≡ Some q → stage_
 body k (lines.Matrix name form) q e = absurd cc
 body k (lines.Index name size) q e = absurd cc
 body k (lines.Vector name size source) q e = absurd cc
+body k (lines.Local name) q e = absurd cc
 body k (lines.Prop prop) q e = absurd cc
 body k (lines.Loop name) q e = absurd cc
 body k (lines.For name lo hi) q e = ap lifted e
 body k (lines.When rel left right) q e = ap lifted e
 body k (lines.Set array at value) q e = ap lifted e
+body k (lines.Keep name value) q e = ap lifted e
 body zero lines.End q e = ap lifted e
 body (suc k) lines.End q e = ap lifted e
 

@@ -16,7 +16,7 @@ use Rattle.loop_lines.specs.declared.tree.NamedExpr.TheFolds.{fold-NamedExpr}
 use Rattle.loop_lines.specs.Reading.{or_else}
 use Rattle.loop_lines.specs.Words.{either}
 use Rattle.loop_syntax.specs.declared.refusal.LimitKind.{LimitKind}
-use Rattle.loop_syntax.specs.declared.refusal.LimitKind.TheVariants.{Lines, Constant, Arrays, Depth, References}
+use Rattle.loop_syntax.specs.declared.refusal.LimitKind.TheVariants.{Lines, Constant, Arrays, Locals, Depth, References}
 use Rattle.loop_syntax.specs.declared.numbered.Numbered.{Numbered}
 use Rattle.loop_syntax.specs.Scope.{Scope, empty, scope_after, use_of, variables}
 use Rattle.loop_syntax.specs.Resolved.{number_of}
@@ -34,6 +34,7 @@ constants = fold-NamedTerm (List ℤ) (List ℤ) constants_step (λ t. t.atom ++
 abbrev pub value_terms_step : NamedExpr-F (List NamedTerm) → List NamedTerm
 value_terms_step (NamedExpr-F.Lit value) = []
 value_terms_step (NamedExpr-F.Read array at) = at ∷ []
+value_terms_step (NamedExpr-F.Local name) = []
 value_terms_step (NamedExpr-F.Op op left right) = left ++ right
 
 abbrev pub value_terms : NamedExpr → List NamedTerm
@@ -49,6 +50,7 @@ terms (lines.Prop prop) = bounds prop
 terms (lines.For name lo hi) = lo ∷ hi ∷ []
 terms (lines.When rel left right) = left ∷ right ∷ []
 terms (lines.Set array at value) = at ∷ value_terms value
+terms (lines.Keep name value) = value_terms value
 terms _ = []
 
 abbrev pub has_constants : Line → Bool
@@ -59,15 +61,17 @@ has_constants l = list_all is_constant (flat_map constants (terms l))
 abbrev pub reads_step : NamedExpr-F (List ArrayName) → List ArrayName
 reads_step (NamedExpr-F.Lit value) = []
 reads_step (NamedExpr-F.Read array at) = array ∷ []
+reads_step (NamedExpr-F.Local name) = []
 reads_step (NamedExpr-F.Op op left right) = left ++ right
 
 -- the arrays that an expression reads, from left to right
 abbrev pub reads : NamedExpr → List ArrayName
 reads = fold-NamedExpr (List ArrayName) reads_step
 
--- the data arrays on a line: those read, and then the one written
+-- the data arrays on a line: those read, and then the one written; a local is none
 abbrev pub data_arrays : Line → List ArrayName
 data_arrays (lines.Set array at value) = reads value ++ array ∷ []
+data_arrays (lines.Keep name value) = reads value
 data_arrays _ = []
 
 abbrev pub target : Scope → Line → List ℕ
@@ -97,7 +101,7 @@ constant_limit l = if has_constants l then None else Some Constant
 -- the first limit that the scope after a line passes, or the references up to its end
 abbrev pub scope_limit : Scope → ℕ → Option LimitKind
 scope_limit behind count =
-    either (passed (nat_lt 64 behind.arrays) Arrays) (either (passed (nat_lt 6 (length (variables behind.blocks))) Depth) (passed (nat_lt 16 count) References))
+    either (passed (nat_lt 64 behind.arrays) Arrays) (either (passed (nat_lt 16 behind.locals) Locals) (either (passed (nat_lt 6 (length (variables behind.blocks))) Depth) (passed (nat_lt 16 count) References)))
 
 -- the first limit that a line passes, with the scope after it and the references up to its end
 abbrev pub limits_at : Line → Scope → ℕ → Option LimitKind

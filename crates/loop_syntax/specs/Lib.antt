@@ -1,4 +1,5 @@
 pub mod Numbered
+pub mod Cutting
 pub mod Scope
 pub mod NameRules
 pub mod Resolved
@@ -12,3 +13,4 @@ pub mod ScopeFields
 pub mod Bodies
 pub mod Gathering
 pub mod TextNest
+pub mod Texts

@@ -36,6 +36,17 @@ variable_fault None = Some Unknown
 variable_fault (Some (meanings.Variable line)) = None
 variable_fault (Some _) = Some WrongKind
 
+-- a name alone in an expression is a local
+abbrev pub local_fault : Option Meaning → Option NameKind
+local_fault None = Some Unknown
+local_fault (Some (meanings.Local number)) = None
+local_fault (Some _) = Some WrongKind
+
+-- a name alone that is written is a local
+abbrev pub kept_fault : Option Meaning → Option NameKind
+kept_fault (Some (meanings.Indexes size number)) = Some WrittenIndex
+kept_fault meaning = local_fault meaning
+
 -- an index array in a term or a property
 abbrev pub index_fault : ArrayUse → Option NameKind
 index_fault uses.Unknown = Some Unknown
@@ -79,6 +90,7 @@ terms_fault s first second = either (term_fault s first) (term_fault s second)
 abbrev pub value_step : Scope → NamedExpr-F (Option NameKind) → Option NameKind
 value_step s (NamedExpr-F.Lit value) = None
 value_step s (NamedExpr-F.Read array at) = either (data_fault (use_of s array)) (term_fault s at)
+value_step s (NamedExpr-F.Local name) = local_fault (meaning_of s name)
 value_step s (NamedExpr-F.Op op left right) = either left right
 
 abbrev pub value_fault : Scope → NamedExpr → Option NameKind
@@ -108,11 +120,13 @@ abbrev pub line_fault : Scope → Line → Option NameKind
 line_fault s (lines.Matrix name form) = new_fault (meaning_of s name)
 line_fault s (lines.Index name size) = new_fault (meaning_of s name)
 line_fault s (lines.Vector name size source) = new_fault (meaning_of s name)
+line_fault s (lines.Local name) = new_fault (meaning_of s name)
 line_fault s (lines.Prop prop) = prop_fault s prop
 line_fault s (lines.Loop name) = new_fault (meaning_of s name)
 line_fault s (lines.For name lo hi) = either (new_fault (meaning_of s name)) (terms_fault s lo hi)
 line_fault s (lines.When rel left right) = terms_fault s left right
 line_fault s (lines.Set array at value) = either (either (target_fault (use_of s array)) (term_fault s at)) (value_fault s value)
+line_fault s (lines.Keep name value) = either (kept_fault (meaning_of s name)) (value_fault s value)
 line_fault s lines.End = None
 
 -- the first line that breaks a rule, and which

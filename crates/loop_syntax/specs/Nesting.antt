@@ -15,6 +15,7 @@ use Rattle.loop_syntax.specs.declared.items.OpenBlock.{OpenBlock}
 pub data Mark : Type 0 where
   Opens : ℕ → Head → Mark
   Sets : ℕ → ArrayId → Term → Expr → Mark
+  Keeps : ℕ → ℕ → Expr → Mark
   Ends : Mark
 
 abbrev pub joined : List (List Mark) → List Mark
@@ -24,6 +25,7 @@ abbrev pub marks_step : Item-F (List Mark) → List Mark
 marks_step (Item-F.For line name lo hi body) = Opens line (heads.For name lo hi) ∷ (joined body ++ Ends ∷ [])
 marks_step (Item-F.When line rel left right body) = Opens line (heads.When rel left right) ∷ (joined body ++ Ends ∷ [])
 marks_step (Item-F.Set line array at value) = Sets line array at value ∷ []
+marks_step (Item-F.Keep line local value) = Keeps line local value ∷ []
 
 -- the lines of an item, from its first to its end
 abbrev pub item_marks : Item → List Mark

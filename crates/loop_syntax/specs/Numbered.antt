@@ -1,6 +1,5 @@
 -- The lines of a text that have words, with their numbers.
-use Rattle.std.specs.Prelude.{◌≡◌, ℕ, ◌+◌, List, [], ◌∷◌, Option, Some, None}
-use Rattle.text_base.specs.Lines.{lines}
+use Rattle.std.specs.Prelude.{ℕ, ◌+◌, List, [], ◌∷◌, Option, Some, None}
 use Rattle.loop_lines.specs.declared.line.Line.{Line}
 use Rattle.loop_lines.specs.Fitting.{text_line}
 use Rattle.loop_syntax.specs.declared.numbered.Numbered.{Numbered}
@@ -21,16 +20,3 @@ numbered_from n (l ∷ ls) = before n (worded (text_line l)) (numbered_from (n +
 
 abbrev pub numbered : List (List ℕ) → List Numbered
 numbered = numbered_from 1
-
--- the next line, and those after it
-abbrev pub Follows : List Numbered → Option Numbered → List Numbered → Type 0
-Follows lines None rest = lines ≡ []
-Follows lines (Some l) rest = lines ≡ l ∷ rest
-
--- the bytes of a text that are left, and the number of their first line
-pub record Unread : Type 0 where
-  pub number : ℕ
-  pub bytes : List ℕ
-
-abbrev pub left : Unread → List Numbered
-left unread = numbered_from unread.number (lines unread.bytes)

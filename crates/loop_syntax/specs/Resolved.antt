@@ -1,8 +1,9 @@
--- Lines with their names resolved: arrays by their numbers, variables by the lines of their loops.
+-- Lines with their names resolved: arrays and locals by their numbers, variables by the lines of their loops.
 use Rattle.std.specs.Prelude.{ℕ, List, [], ◌∷◌, Option, Some}
 use Rattle.wave_base.specs.declared.types.ArrayId.{ArrayId}
 use Rattle.loop_core.specs.declared.decl.Decl.{Decl}
 use Rattle.loop_core.specs.declared.decl.DeclKind.TheVariants as kinds
+use Rattle.loop_core.specs.declared.decl.LocalDecl.{LocalDecl}
 use Rattle.loop_core.specs.declared.decl.PropKind.{PropKind}
 use Rattle.loop_core.specs.declared.decl.PropKind.TheVariants as resolved
 use Rattle.loop_core.specs.declared.decl.PropDecl.{PropDecl}
@@ -30,7 +31,7 @@ use Rattle.loop_syntax.specs.declared.scope.ArrayUse.{ArrayUse}
 use Rattle.loop_syntax.specs.declared.scope.ArrayUse.TheVariants as uses
 use Rattle.loop_syntax.specs.declared.items.Head.TheVariants as heads
 use Rattle.loop_syntax.specs.Scope.{Scope, meaning_of, use_of}
-use Rattle.loop_syntax.specs.Nesting.{Mark, Opens, Sets, Ends}
+use Rattle.loop_syntax.specs.Nesting.{Mark, Opens, Sets, Keeps, Ends}
 
 -- the number of an array, and 0 where no array stands
 abbrev pub number_of : ArrayUse → ℕ
@@ -49,6 +50,14 @@ loop_line _ = 0
 abbrev pub variable_in : Scope → List ℕ → VarId
 variable_in s name = record { line = loop_line (meaning_of s name); side = sides.Own }
 
+-- the number of a local, and 0 where no local stands
+abbrev pub local_number : Option Meaning → ℕ
+local_number (Some (meanings.Local number)) = number
+local_number _ = 0
+
+abbrev pub local_in : Scope → List ℕ → ℕ
+local_in s name = local_number (meaning_of s name)
+
 abbrev pub atom_step : Scope → NamedAtom-F Atom Term → Atom
 atom_step s NamedAtom-F.Zero = atoms.Zero
 atom_step s NamedAtom-F.N = atoms.N
@@ -65,6 +74,7 @@ term_in s = fold-NamedTerm Atom Term (atom_step s) term_step
 abbrev pub value_step : Scope → NamedExpr-F Expr → Expr
 value_step s (NamedExpr-F.Lit value) = exprs.Lit value
 value_step s (NamedExpr-F.Read array at) = exprs.Read (array_in s array) (term_in s at)
+value_step s (NamedExpr-F.Local name) = exprs.Local (local_in s name)
 value_step s (NamedExpr-F.Op op left right) = exprs.Op op left right
 
 abbrev pub value_in : Scope → NamedExpr → Expr
@@ -89,6 +99,10 @@ declaration n (lines.Index name size) = record { line = n; name = name; kind = k
 declaration n (lines.Vector name size source) = record { line = n; name = name; kind = kinds.Vector size source } ∷ []
 declaration n _ = []
 
+abbrev pub local : ℕ → Line → List LocalDecl
+local n (lines.Local name) = record { line = n; name = name } ∷ []
+local n _ = []
+
 abbrev pub property : Scope → ℕ → Line → List PropDecl
 property s n (lines.Prop prop) = record { line = n; kind = prop_in s prop } ∷ []
 property s n _ = []
@@ -97,6 +111,7 @@ abbrev pub mark : Scope → ℕ → Line → List Mark
 mark s n (lines.For name lo hi) = Opens n (heads.For name (term_in s lo) (term_in s hi)) ∷ []
 mark s n (lines.When rel left right) = Opens n (heads.When rel (term_in s left) (term_in s right)) ∷ []
 mark s n (lines.Set array at value) = Sets n (array_in s array) (term_in s at) (value_in s value) ∷ []
+mark s n (lines.Keep name value) = Keeps n (local_in s name) (value_in s value) ∷ []
 mark s n lines.End = Ends ∷ []
 mark s n _ = []
 

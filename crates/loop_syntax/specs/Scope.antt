@@ -18,15 +18,16 @@ use Rattle.loop_lines.specs.declared.block.Block.TheVariants.{Repeated, Guarded}
 use Rattle.loop_syntax.specs.declared.scope.Known.{Known}
 use Rattle.loop_syntax.specs.declared.scope.Parts.{Parts}
 
--- what the lines above a line leave: the declared names in the order of the text, the number of their arrays,
--- and the open blocks, the innermost first
+-- what the lines above a line leave: the declared names in the order of the text, the numbers of their arrays and of
+-- their locals, and the open blocks, the innermost first
 pub record Scope : Type 0 where
   pub declared : List Known
   pub arrays : ℕ
+  pub locals : ℕ
   pub blocks : List Block
 
 abbrev pub empty : Scope
-empty = record { declared = []; arrays = 0; blocks = [] }
+empty = record { declared = []; arrays = 0; locals = 0; blocks = [] }
 
 -- the variables of open loops
 abbrev pub variables : List Block → List Known
@@ -47,33 +48,35 @@ meaning_of s name = found name (known s)
 
 -- What a line adds.
 
--- a declared name, and the arrays that come with it
-abbrev pub declared : Scope → List ℕ → Meaning → ℕ → Scope
-declared s name meaning arrays = record { declared = s.declared ++ record { name = name; meaning = meaning } ∷ []; arrays = s.arrays + arrays; blocks = s.blocks }
+-- a declared name, and the arrays and locals that come with it
+abbrev pub declared : Scope → List ℕ → Meaning → ℕ → ℕ → Scope
+declared s name meaning arrays locals = record { declared = s.declared ++ record { name = name; meaning = meaning } ∷ []; arrays = s.arrays + arrays; locals = s.locals + locals; blocks = s.blocks }
 
 abbrev pub opened : Scope → Block → Scope
-opened s block = record { declared = s.declared; arrays = s.arrays; blocks = block ∷ s.blocks }
+opened s block = record { declared = s.declared; arrays = s.arrays; locals = s.locals; blocks = block ∷ s.blocks }
 
 abbrev pub outer_blocks : List Block → List Block
 outer_blocks [] = []
 outer_blocks (block ∷ more) = more
 
 abbrev pub closed : Scope → Scope
-closed s = record { declared = s.declared; arrays = s.arrays; blocks = outer_blocks s.blocks }
+closed s = record { declared = s.declared; arrays = s.arrays; locals = s.locals; blocks = outer_blocks s.blocks }
 
 -- the four arrays of a matrix have the next numbers
 abbrev pub parts_from : ℕ → Parts
 parts_from n = record { ptr = n; index = n + 1; diag = n + 2; val = n + 3 }
 
 abbrev pub scope_behind : Scope → ℕ → Line → Scope
-scope_behind s n (lines.Matrix name form) = declared s name (meanings.Matrix form (parts_from s.arrays)) 4
-scope_behind s n (lines.Index name size) = declared s name (meanings.Indexes size s.arrays) 1
-scope_behind s n (lines.Vector name size source) = declared s name (meanings.Holds size s.arrays) 1
+scope_behind s n (lines.Matrix name form) = declared s name (meanings.Matrix form (parts_from s.arrays)) 4 0
+scope_behind s n (lines.Index name size) = declared s name (meanings.Indexes size s.arrays) 1 0
+scope_behind s n (lines.Vector name size source) = declared s name (meanings.Holds size s.arrays) 1 0
+scope_behind s n (lines.Local name) = declared s name (meanings.Local s.locals) 0 1
 scope_behind s n (lines.Prop prop) = s
 scope_behind s n (lines.Loop name) = opened s (Repeated n name)
 scope_behind s n (lines.For name lo hi) = opened s (Repeated n name)
 scope_behind s n (lines.When rel left right) = opened s Guarded
 scope_behind s n (lines.Set array at value) = s
+scope_behind s n (lines.Keep name value) = s
 scope_behind s n lines.End = closed s
 
 abbrev pub scope_after : Scope → Numbered → Scope
@@ -95,6 +98,7 @@ own_use (Some (meanings.Matrix form parts)) = uses.Other
 own_use (Some (meanings.Indexes size number)) = uses.Indexes size number
 own_use (Some (meanings.Holds size number)) = uses.Holds size number
 own_use (Some (meanings.Variable line)) = uses.Other
+own_use (Some (meanings.Local number)) = uses.Other
 
 abbrev pub dotted_use : Option Meaning → List ℕ → ArrayUse
 dotted_use (Some (meanings.Matrix form parts)) part = part_use form parts part

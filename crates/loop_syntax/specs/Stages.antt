@@ -17,6 +17,7 @@ stage_above (lines.Loop name) = Some (Within 0)
 stage_above (lines.For name lo hi) = None
 stage_above (lines.When rel left right) = None
 stage_above (lines.Set array at value) = None
+stage_above (lines.Keep name value) = None
 stage_above lines.End = None
 stage_above _ = Some Above
 
@@ -24,6 +25,7 @@ abbrev pub stage_within : ℕ → Line → Option Stage
 stage_within blocks (lines.For name lo hi) = Some (Within (blocks + 1))
 stage_within blocks (lines.When rel left right) = Some (Within (blocks + 1))
 stage_within blocks (lines.Set array at value) = Some (Within blocks)
+stage_within blocks (lines.Keep name value) = Some (Within blocks)
 stage_within zero lines.End = Some Behind
 stage_within (suc k) lines.End = Some (Within k)
 stage_within _ _ = None
@@ -45,4 +47,4 @@ AreNested stage ls = stage_at_end stage ls ≡ Some Behind
 -- the lines have small numbers, and pass no limit of a scope
 abbrev pub AreFew : Scope → List Numbered → Type 0
 AreFew s [] = Unit {0}
-AreFew s (l ∷ ls) = (l.number ≤ 400) × ((scope_after s l).arrays ≤ 64) × (length (variables (scope_after s l).blocks) ≤ 6) × AreFew (scope_after s l) ls
+AreFew s (l ∷ ls) = (l.number ≤ 400) × ((scope_after s l).arrays ≤ 64) × ((scope_after s l).locals ≤ 16) × (length (variables (scope_after s l).blocks) ≤ 6) × AreFew (scope_after s l) ls

@@ -2,6 +2,7 @@
 use Rattle.std.specs.Prelude.{◌≡◌, ℕ, List, [], ◌∷◌, ◌++◌, length, Option, Some, None, Result, Ok, Err}
 use Rattle.std.specs.Option.{option_map}
 use Rattle.loop_core.specs.declared.decl.Decl.{Decl}
+use Rattle.loop_core.specs.declared.decl.LocalDecl.{LocalDecl}
 use Rattle.loop_core.specs.declared.decl.PropDecl.{PropDecl}
 use Rattle.loop_core.specs.declared.nest.Nest.{Nest}
 use Rattle.loop_lines.specs.Words.{either}
@@ -13,7 +14,7 @@ use Rattle.loop_syntax.specs.Numbered.{numbered}
 use Rattle.loop_syntax.specs.Scope.{Scope, empty, scope_after}
 use Rattle.loop_syntax.specs.NameRules.{first_fault}
 use Rattle.loop_syntax.specs.Counts.{first_limit}
-use Rattle.loop_syntax.specs.Resolved.{declaration, property, mark, outer}
+use Rattle.loop_syntax.specs.Resolved.{declaration, property, local, mark, outer}
 use Rattle.loop_syntax.specs.Nesting.{Mark, Ends, marks}
 
 -- what each line gives in the scope in which it stands, in the order of the lines
@@ -27,6 +28,9 @@ declarations ls = gathered (λ s l. declaration l.number l.line) empty ls
 abbrev pub properties : List Numbered → List PropDecl
 properties ls = gathered (λ s l. property s l.number l.line) empty ls
 
+abbrev pub locals : List Numbered → List LocalDecl
+locals ls = gathered (λ s l. local l.number l.line) empty ls
+
 abbrev pub outer_loops : List Numbered → List (ℕ × List ℕ)
 outer_loops ls = gathered (λ s l. outer l.number l.line) empty ls
 
@@ -37,14 +41,19 @@ body_marks ls = gathered (λ s l. mark s l.number l.line) empty ls
 pub record IsNestOf (ls : List Numbered) (nest : Nest) : Type 0 where
   pub decls : nest.decls ≡ declarations ls
   pub props : nest.props ≡ properties ls
+  pub locals : nest.locals ≡ locals ls
   pub loop : outer_loops ls ≡ (nest.line, nest.name) ∷ []
   pub body : marks nest.body ++ Ends ∷ [] ≡ body_marks ls
 
--- why lines are no nest: the least one that doesn't fit; else the first name that breaks a rule; else the first
+-- why lines that fit are no nest, of a text with so many lines: the first name that breaks a rule; else the first
 -- line that passes a limit
+abbrev pub broken : ℕ → List Numbered → Option LoopRefusal
+broken count ls =
+    either (option_map (λ fault. refusals.Name fault.0 fault.1) (first_fault empty ls)) (option_map (λ passed. refusals.Limit passed.0 passed.1) (first_limit count ls))
+
+-- why a text is no nest: the least line that doesn't fit; else what is wrong with its lines
 abbrev pub refusal : List (List ℕ) → Option LoopRefusal
-refusal ls =
-    either (option_map refusals.Text (misfit start 1 ls)) (either (option_map (λ fault. refusals.Name fault.0 fault.1) (first_fault empty (numbered ls))) (option_map (λ passed. refusals.Limit passed.0 passed.1) (first_limit (length ls) (numbered ls))))
+refusal ls = either (option_map refusals.Text (misfit start 1 ls)) (broken (length ls) (numbered ls))
 
 -- a reader's answer on the lines of a text
 pub record IsRead (ls : List (List ℕ)) (nest : Nest) : Type 0 where

@@ -2,15 +2,15 @@
 ghost use Rattle.std.specs.Prelude.{◌≡◌, ◌+◌, length, Some, IfOk};
 ghost use Rattle.loop_lines.specs.declared.line.Line.TheVariants.{End as end};
 ghost use Rattle.loop_syntax.specs.Narrow.{IsNarrow};
-ghost use Rattle.loop_syntax.specs.Nesting.{Opens, Sets, Ends};
+ghost use Rattle.loop_syntax.specs.Nesting.{Opens, Sets, Keeps, Ends};
 ghost use Rattle.loop_syntax.specs.Stages.{Within as within, stage_within};
 ghost use Rattle.loop_syntax.specs.Bodies.{Adds, Goes};
 ghost use Rattle.loop_syntax.specs.declared.body.Body.TheVariants as bodies;
-ghost use Rattle.loop_syntax.specs.Resolved.{array_in as array_number, term_in as term_value, value_in as expr_value};
+ghost use Rattle.loop_syntax.specs.Resolved.{array_in as array_number, local_in as local_value, term_in as term_value, value_in as expr_value};
 ghost use Rattle.loop_syntax.specs.declared.items.Head.TheVariants.{For as repeats, When as guards};
 
-use crate::items::{Head, OpenBlock, add_statement, close_block};
-use crate::resolve::{array_in, term_in, value_in};
+use crate::items::{Head, OpenBlock, add_kept, add_statement, close_block};
+use crate::resolve::{array_in, local_in, term_in, value_in};
 use crate::scope::Scope;
 use loop_core::name::Name;
 use loop_core::nest::{Item, Rel};
@@ -129,6 +129,34 @@ impl OpenLoop {
         }))
     }
 
+    /// A statement that keeps a local.
+    fn keep(
+        self,
+        alloc: Global,
+        scope: &Scope,
+        line: u16,
+        local: &Name,
+        value: &NamedExpr,
+    ) -> Result<Body, Memory>
+        requires { IsNarrow scope.now }
+        ensures { IfOk result (λ b. Adds self (Some (within (length self.around))) (Keeps line (local_value scope.now local.now) (expr_value scope.now value.now)) b) }
+    {
+        let value = value_in(alloc, scope, value)?;
+        let OpenLoop {
+            line: own,
+            name,
+            around,
+            items,
+        } = self;
+        let items = add_kept(items, line, local_in(scope, local), value)?;
+        Ok(Body::Within(OpenLoop {
+            line: own,
+            name,
+            around,
+            items,
+        }))
+    }
+
     /// The end of the innermost open block, or of the loop itself.
     fn end(self) -> Result<Body, Memory>
         ensures { IfOk result (λ b. Adds self (stage_within (length self.around) end) Ends b) }
@@ -160,6 +188,7 @@ impl OpenLoop {
             Line::For(name, lo, hi) => self.repeat(alloc, scope, number, name, lo, hi),
             Line::When(rel, left, right) => self.guard(alloc, scope, number, *rel, left, right),
             Line::Set(array, at, value) => self.set(alloc, scope, number, array, at, value),
+            Line::Keep(name, value) => self.keep(alloc, scope, number, name, value),
             Line::End => self.end(),
             _ => Ok(Body::Within(self)),
         }

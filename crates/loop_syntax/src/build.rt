@@ -1,9 +1,7 @@
-// The nest of a text, gathered line by line.
-ghost use Rattle.std.specs.Prelude.{◌≡◌, ◌≤◌, ◌<◌, ◌+◌, ◌^◌, ◌++◌, [], ◌∷◌, length, IfOk};
-ghost use Rattle.text_base.specs.Lines.{lines};
-ghost use Rattle.loop_syntax.specs.Numbered.{numbered};
+// The nest, gathered line by line.
+ghost use Rattle.std.specs.Prelude.{◌≡◌, ◌<◌, ◌+◌, ◌^◌, ◌++◌, [], ◌∷◌, IfOk};
 ghost use Rattle.loop_syntax.specs.Scope.{empty, scope_after};
-ghost use Rattle.loop_syntax.specs.Resolved.{declaration, property};
+ghost use Rattle.loop_syntax.specs.Resolved.{declaration, property, local};
 ghost use Rattle.loop_syntax.specs.Narrow.{IsNarrow};
 ghost use Rattle.loop_syntax.specs.Stages.{Above, Behind, AreNested, AreFew};
 ghost use Rattle.loop_syntax.specs.Bodies.{stage_of};
@@ -12,10 +10,10 @@ ghost use Rattle.loop_syntax.specs.declared.body.Body.TheVariants.{Above as abov
 ghost use Rattle.loop_syntax.specs.TextNest.{IsNestOf};
 
 use crate::body::{Body, go_on};
-use crate::numbered::{Numbered, NumberedLines};
+use crate::numbered::Numbered;
 use crate::resolve::prop_in;
 use crate::scope::Scope;
-use loop_core::decl::{Decl, DeclKind, PropDecl};
+use loop_core::decl::{Decl, DeclKind, LocalDecl, PropDecl};
 use loop_core::name::Name;
 use loop_core::nest::Nest;
 use loop_lines::line::Line;
@@ -28,6 +26,7 @@ use wave_base::types::Memory;
 pub struct Gathered {
     pub decls: Items<Decl>,
     pub props: Items<PropDecl>,
+    pub locals: Items<LocalDecl>,
     pub body: Body,
 }
 
@@ -75,15 +74,32 @@ fn add_property(
     }
 }
 
+fn add_local(locals: &mut Items<LocalDecl>, number: u16, line: &Line) -> Result<(), Memory>
+    ensures { IfOk result (λ _. locals.new ≡ locals.old ++ local number line.now) }
+{
+    match line {
+        Line::Local(name) => {
+            locals.push(LocalDecl {
+                line: number,
+                name: name.copy(),
+            })?;
+            Ok(())
+        }
+        _ => Ok(()),
+    }
+}
+
 impl Gathered {
     fn new(alloc: Global) -> Gathered
         ensures decls { result.decls ≡ [] }
         ensures props { result.props ≡ [] }
+        ensures locals { result.locals ≡ [] }
         ensures body { result.body ≡ above }
     {
         Gathered {
             decls: Items::new(alloc),
             props: Items::new(alloc),
+            locals: Items::new(alloc),
             body: Body::Above,
         }
     }
@@ -97,13 +113,20 @@ impl Gathered {
         let Gathered {
             mut decls,
             mut props,
+            mut locals,
             body,
         } = self;
         let number = next.number as u16;
         add_declaration(&mut decls, number, &next.line)?;
         add_property(alloc, &mut props, scope, number, &next.line)?;
+        add_local(&mut locals, number, &next.line)?;
         let body = go_on(alloc, scope, body, number, &next.line)?;
-        Ok(Gathered { decls, props, body })
+        Ok(Gathered {
+            decls,
+            props,
+            locals,
+            body,
+        })
     }
 
     /// The nest, after the loop's end.
@@ -111,13 +134,19 @@ impl Gathered {
         requires { stage_of self.body ≡ Behind }
         ensures { IsMade self result }
     {
-        let Gathered { decls, props, body } = self;
+        let Gathered {
+            decls,
+            props,
+            locals,
+            body,
+        } = self;
         let Body::Behind(line, name, body) = body else {
             unreachable!()
         };
         Nest {
             decls,
             props,
+            locals,
             line,
             name,
             body,
@@ -130,30 +159,28 @@ fn step(
     alloc: Global,
     scope: &mut Scope,
     so_far: Gathered,
-    next: Numbered,
+    next: &Numbered,
 ) -> Result<Gathered, Memory>
     requires narrow { IsNarrow scope.old }
-    requires small { next.number < 65536 }
-    requires few { scope.old.arrays + 4 < 2 ^ 32 }
-    ensures grows { IfOk result (λ g. Grows scope.old next so_far g) }
-    ensures scope { IfOk result (λ _. scope.new ≡ scope_after scope.old next) }
+    requires small { next.now.number < 65536 }
+    requires few { scope.old.arrays + scope.old.locals + 4 < 2 ^ 32 }
+    ensures grows { IfOk result (λ g. Grows scope.old next.now so_far g) }
+    ensures scope { IfOk result (λ _. scope.new ≡ scope_after scope.old next.now) }
 {
-    let so_far = so_far.add(alloc, scope, &next)?;
+    let so_far = so_far.add(alloc, scope, next)?;
     scope.pass(next.number, &next.line)?;
     Ok(so_far)
 }
 
-/// The nest of a text whose lines fit, and which passes no limit. It goes once over the text.
-pub fn build(alloc: Global, bytes: &[u8]) -> Result<Nest, Memory>
-    requires short { length bytes.now ≤ 2 ^ 28 }
-    requires nested { AreNested Above (numbered (lines bytes.now)) }
-    requires few { AreFew empty (numbered (lines bytes.now)) }
-    ensures { IfOk result (λ nest. IsNestOf (numbered (lines bytes.now)) nest) }
+/// The nest of lines that fit and pass no limit.
+pub fn build(alloc: Global, lines: &[Numbered]) -> Result<Nest, Memory>
+    requires nested { AreNested Above lines.now }
+    requires few { AreFew empty lines.now }
+    ensures { IfOk result (λ nest. IsNestOf lines.now nest) }
 {
     let mut scope = Scope::new(alloc);
     let mut so_far = Gathered::new(alloc);
-    let mut left = NumberedLines::of(bytes);
-    while let Some(next) = left.next(alloc)? {
+    for next in lines {
         so_far = step(alloc, &mut scope, so_far, next)?;
     }
     Ok(so_far.nest())

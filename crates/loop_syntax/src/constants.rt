@@ -37,6 +37,7 @@ fn value_has_constants(value: &NamedExpr) -> bool
     match value {
         NamedExpr::Lit(_) => true,
         NamedExpr::Read(_, at) => has_constants(at),
+        NamedExpr::Local(_) => true,
         NamedExpr::Op(_, left, right) => {
             value_has_constants(left.get()) && value_has_constants(right.get())
         }
@@ -61,6 +62,7 @@ pub fn line_has_constants(line: &Line) -> bool
         Line::For(_, lo, hi) => have_constants(lo, hi),
         Line::When(_, left, right) => have_constants(left, right),
         Line::Set(_, at, value) => has_constants(at) && value_has_constants(value),
+        Line::Keep(_, value) => value_has_constants(value),
         _ => true,
     }
 }

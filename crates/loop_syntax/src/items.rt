@@ -1,6 +1,6 @@
 // Blocks of items and their lines.
 ghost use Rattle.std.specs.Prelude.{◌≡◌, ◌++◌, [], ◌∷◌, IfOk};
-ghost use Rattle.loop_syntax.specs.Nesting.{Opens, Sets, Ends, item_marks, marks};
+ghost use Rattle.loop_syntax.specs.Nesting.{Opens, Sets, Keeps, Ends, item_marks, marks};
 
 use loop_core::name::Name;
 use loop_core::nest::{Expr, Item, Rel, Term};
@@ -68,6 +68,18 @@ pub fn add_statement(
         value,
     };
     add(before, item)
+}
+
+/// The items with a statement after them that keeps a local.
+pub fn add_kept(
+    before: Items<Item>,
+    line: u16,
+    local: u8,
+    value: Expr,
+) -> Result<Items<Item>, Memory>
+    ensures { IfOk result (λ items. marks items ≡ marks before ++ Keeps line local value ∷ []) }
+{
+    add(before, Item::Keep { line, local, value })
 }
 
 /// The items before a block, and the block after them, which has these items.

@@ -1,13 +1,11 @@
 // The rules on names, on each line from left to right.
 ghost use Rattle.std.specs.Prelude.{◌≡◌, ◌≤◌, ◌<◌, ◌+◌, ◌^◌, None, length, IfOk};
-ghost use Rattle.text_base.specs.Lines.{lines};
 ghost use Rattle.loop_core.specs.IsNest.{same_size};
 ghost use Rattle.loop_lines.specs.Words.{either};
-ghost use Rattle.loop_syntax.specs.Numbered.{numbered};
 ghost use Rattle.loop_syntax.specs.Scope.{empty, scope_after};
-ghost use Rattle.loop_syntax.specs.NameRules.{new_fault, variable_fault, index_fault, sized_fault, alike_fault, data_fault, target_fault, by_fault, before_fault, term_fault, terms_fault, value_fault, prop_fault, line_fault, first_fault};
+ghost use Rattle.loop_syntax.specs.NameRules.{new_fault, variable_fault, local_fault, kept_fault, index_fault, sized_fault, alike_fault, data_fault, target_fault, by_fault, before_fault, term_fault, terms_fault, value_fault, prop_fault, line_fault, first_fault};
 
-use crate::numbered::{Numbered, NumberedLines};
+use crate::numbered::Numbered;
 use crate::refusal::NameKind;
 use crate::scope::{ArrayUse, Meaning, Scope};
 use loop_core::decl::Size;
@@ -42,6 +40,25 @@ fn variable_fault(meaning: Option<Meaning>) -> Option<NameKind>
         None => Some(NameKind::Unknown),
         Some(Meaning::Variable(_)) => None,
         Some(_) => Some(NameKind::WrongKind),
+    }
+}
+
+fn local_fault(meaning: Option<Meaning>) -> Option<NameKind>
+    ensures { result ≡ local_fault meaning }
+{
+    match meaning {
+        None => Some(NameKind::Unknown),
+        Some(Meaning::Local(_)) => None,
+        Some(_) => Some(NameKind::WrongKind),
+    }
+}
+
+fn kept_fault(meaning: Option<Meaning>) -> Option<NameKind>
+    ensures { result ≡ kept_fault meaning }
+{
+    match meaning {
+        Some(Meaning::Indexes(_, _)) => Some(NameKind::WrittenIndex),
+        _ => local_fault(meaning),
     }
 }
 
@@ -139,6 +156,7 @@ fn value_fault(scope: &Scope, value: &NamedExpr) -> Option<NameKind>
         NamedExpr::Read(array, at) => {
             either(data_fault(scope.use_of(array)), term_fault(scope, at))
         }
+        NamedExpr::Local(name) => local_fault(scope.meaning_of(name)),
         NamedExpr::Op(_, left, right) => either(
             value_fault(scope, left.get()),
             value_fault(scope, right.get()),
@@ -187,6 +205,7 @@ pub fn line_fault(scope: &Scope, line: &Line) -> Option<NameKind>
         Line::Matrix(name, _) => new_fault(scope.meaning_of(name)),
         Line::Index(name, _) => new_fault(scope.meaning_of(name)),
         Line::Vector(name, _, _) => new_fault(scope.meaning_of(name)),
+        Line::Local(name) => new_fault(scope.meaning_of(name)),
         Line::Prop(prop) => prop_fault(scope, prop),
         Line::Loop(name) => new_fault(scope.meaning_of(name)),
         Line::For(name, lo, hi) => {
@@ -199,16 +218,20 @@ pub fn line_fault(scope: &Scope, line: &Line) -> Option<NameKind>
             let at = either(array, term_fault(scope, at));
             either(at, value_fault(scope, value))
         }
+        Line::Keep(name, value) => {
+            let name = kept_fault(scope.meaning_of(name));
+            either(name, value_fault(scope, value))
+        }
         Line::End => None,
     }
 }
 
 /// The first rule that a line breaks; where it breaks none, the scope goes past it.
 fn step(scope: &mut Scope, next: &Numbered) -> Result<Option<NameKind>, Memory>
-    requires { scope.old.arrays + 4 < 2 ^ 32 }
+    requires { scope.old.arrays + scope.old.locals + 4 < 2 ^ 32 }
     ensures fault { IfOk result (λ fault. fault ≡ line_fault scope.old next.now.line) }
     ensures passed { IfOk result (λ fault. fault ≡ None → scope.new ≡ scope_after scope.old next.now) }
-    ensures few { IfOk result (λ _. scope.new.arrays ≤ scope.old.arrays + 4) }
+    ensures few { IfOk result (λ _. scope.new.arrays + scope.new.locals ≤ scope.old.arrays + scope.old.locals + 4) }
 {
     if let Some(kind) = line_fault(scope, &next.line) {
         return Ok(Some(kind));
@@ -217,15 +240,14 @@ fn step(scope: &mut Scope, next: &Numbered) -> Result<Option<NameKind>, Memory>
     Ok(None)
 }
 
-/// The first line of a text that breaks a rule on names, and which rule. It goes once over the text.
-pub fn first_fault(alloc: Global, bytes: &[u8]) -> Result<Option<(u32, NameKind)>, Memory>
-    requires { length bytes.now ≤ 2 ^ 28 }
-    ensures { IfOk result (λ fault. fault ≡ first_fault empty (numbered (lines bytes.now))) }
+/// The first of the lines that breaks a rule on names, and which rule.
+pub fn first_fault(alloc: Global, lines: &[Numbered]) -> Result<Option<(u32, NameKind)>, Memory>
+    requires { length lines.now ≤ 2 ^ 28 }
+    ensures { IfOk result (λ fault. fault ≡ first_fault empty lines.now) }
 {
     let mut scope = Scope::new(alloc);
-    let mut left = NumberedLines::of(bytes);
-    while let Some(next) = left.next(alloc)? {
-        match step(&mut scope, &next)? {
+    for next in lines {
+        match step(&mut scope, next)? {
             Some(kind) => return Ok(Some((next.number, kind))),
             None => {}
         }

@@ -11,7 +11,7 @@ pub enum NameKind {
     Unknown,
     /// A name that was declared before, or a loop's variable that is declared or in use.
     Twice,
-    /// An array or variable of another kind or length than its place asks.
+    /// An array, variable or local of another kind or length than its place asks.
     WrongKind,
     /// A statement that writes an index array.
     WrittenIndex,
@@ -24,6 +24,7 @@ pub enum LimitKind {
     Lines,
     Constant,
     Arrays,
+    Locals,
     Depth,
     References,
     Atoms,

@@ -1,6 +1,6 @@
 // Terms, expressions and properties with their names resolved.
 ghost use Rattle.std.specs.Prelude.{◌≡◌, IfOk};
-ghost use Rattle.loop_syntax.specs.Resolved.{number_of, loop_line, array_in, variable_in, term_in, value_in, prop_in};
+ghost use Rattle.loop_syntax.specs.Resolved.{number_of, loop_line, local_number, array_in, variable_in, local_in, term_in, value_in, prop_in};
 ghost use Rattle.loop_syntax.specs.Narrow.{IsNarrow};
 
 use crate::scope::{ArrayUse, Meaning, Scope};
@@ -34,6 +34,16 @@ fn loop_line(meaning: Option<Meaning>) -> u32
     }
 }
 
+/// The number of a local, and 0 where no local stands.
+fn local_number(meaning: Option<Meaning>) -> u32
+    ensures { result ≡ local_number meaning }
+{
+    match meaning {
+        Some(Meaning::Local(number)) => number,
+        _ => 0,
+    }
+}
+
 /// The array of a name.
 pub fn array_in(scope: &Scope, array: &ArrayName) -> ArrayId
     requires { IsNarrow scope.now }
@@ -50,6 +60,14 @@ fn variable_in(scope: &Scope, name: &Name) -> VarId
         line: loop_line(scope.meaning_of(name)) as u16,
         side: Side::Own,
     }
+}
+
+/// The number of the local of a name.
+pub fn local_in(scope: &Scope, name: &Name) -> u8
+    requires { IsNarrow scope.now }
+    ensures { result ≡ local_in scope.now name.now }
+{
+    local_number(scope.meaning_of(name)) as u8
 }
 
 /// The term of arrays and variables. It calls itself as deep as brackets stand in one another.
@@ -84,7 +102,7 @@ pub fn term_in(alloc: Global, scope: &Scope, term: &NamedTerm) -> Result<Term, M
     }
 }
 
-/// The expression of arrays. It calls itself as deep as operations stand in one another.
+/// The expression of arrays and locals. It calls itself as deep as operations stand in one another.
 pub fn value_in(alloc: Global, scope: &Scope, value: &NamedExpr) -> Result<Expr, Memory>
     requires { IsNarrow scope.now }
     ensures { IfOk result (λ e. e ≡ value_in scope.now value.now) }
@@ -95,6 +113,7 @@ pub fn value_in(alloc: Global, scope: &Scope, value: &NamedExpr) -> Result<Expr,
             let at = term_in(alloc, scope, at)?;
             Ok(Expr::Read(array_in(scope, array), at))
         }
+        NamedExpr::Local(name) => Ok(Expr::Local(local_in(scope, name))),
         NamedExpr::Op(op, left, right) => {
             let left = value_in(alloc, scope, left.get())?;
             let left = Boxed::new(alloc, left)?;

@@ -23,7 +23,7 @@ pub struct Parts {
     pub val: u32,
 }
 
-/// What a name stands for. Arrays count from 0 in the order of their declarations.
+/// What a name stands for. Arrays count from 0 in the order of their declarations, and so do locals.
 #[derive(Clone, Copy, Debug, PartialEq, Eq)]
 pub enum Meaning {
     /// A matrix and the numbers of its arrays.
@@ -34,6 +34,8 @@ pub enum Meaning {
     Holds(Size, u32),
     /// The variable of the loop on this line.
     Variable(u32),
+    /// A local.
+    Local(u32),
 }
 
 /// A name and what it stands for.
@@ -48,7 +50,7 @@ pub struct Known {
 pub enum ArrayUse {
     /// Nothing of this name.
     Unknown,
-    /// A matrix by itself, or a variable.
+    /// A matrix by itself, a variable or a local.
     Other,
     /// An index array of this size and number.
     Indexes(Size, u32),
@@ -64,14 +66,15 @@ pub struct Opened {
     outer: Option<u32>,
 }
 
-/// What the lines above a line leave: the declared names, the number of their arrays, and the
-/// open blocks. Contracts see the innermost block first. A name is found in constant expected time,
+/// What the lines above a line leave: the declared names, the numbers of their arrays and of their
+/// locals, and the open blocks. Contracts see the innermost block first. A name is found in constant expected time,
 /// whatever the number of names and open blocks.
 #[derive(Drop)]
 pub struct Scope {
     // The declared names in their order, which contracts speak of. Names are sought in the table.
     declared: Vec<Known>,
     arrays: u32,
+    locals: u32,
     // From the outermost block on.
     blocks: Vec<Opened>,
     // How many of the blocks are loops.
@@ -87,7 +90,7 @@ impl Model for Scope {
 
     ghost use Rattle.loop_syntax.specs.ScopeFields.{blocks_of, KeepsUp};
 
-    ghost view = { λ s. record { declared = s.declared.items; arrays = s.arrays; blocks = blocks_of (reverse s.blocks.items) } };
+    ghost view = { λ s. record { declared = s.declared.items; arrays = s.arrays; locals = s.locals; blocks = blocks_of (reverse s.blocks.items) } };
 
     ghost invariant = { λ s. KeepsUp s.table s.declared.items (reverse s.blocks.items) s.loops };
 }
@@ -133,6 +136,7 @@ fn own_use(meaning: Option<Meaning>) -> ArrayUse
         Some(Meaning::Indexes(size, number)) => ArrayUse::Indexes(size, number),
         Some(Meaning::Holds(size, number)) => ArrayUse::Holds(size, number),
         Some(Meaning::Variable(_)) => ArrayUse::Other,
+        Some(Meaning::Local(_)) => ArrayUse::Other,
     }
 }
 
@@ -166,6 +170,7 @@ impl Scope {
         Scope {
             declared: Vec::new(alloc),
             arrays: 0,
+            locals: 0,
             blocks: Vec::new(alloc),
             loops: 0,
             table: Standings::new(alloc),
@@ -177,6 +182,13 @@ impl Scope {
         ensures { result ≡ self.now.arrays }
     {
         self.arrays
+    }
+
+    /// How many locals are declared.
+    pub fn locals(&self) -> u32
+        ensures { result ≡ self.now.locals }
+    {
+        self.locals
     }
 
     /// How many loops are open.
@@ -203,9 +215,16 @@ impl Scope {
         }
     }
 
-    fn declare(&mut self, name: &Name, meaning: Meaning, arrays: u32) -> Result<(), Memory>
-        requires { self.old.arrays + arrays < 2 ^ 32 }
-        ensures { IfOk result (λ _. self.new ≡ declared self.old name.now meaning arrays) }
+    fn declare(
+        &mut self,
+        name: &Name,
+        meaning: Meaning,
+        arrays: u32,
+        locals: u32,
+    ) -> Result<(), Memory>
+        requires arrays { self.old.arrays + arrays < 2 ^ 32 }
+        requires locals { self.old.locals + locals < 2 ^ 32 }
+        ensures { IfOk result (λ _. self.new ≡ declared self.old name.now meaning arrays locals) }
     {
         make_room(&mut self.table, name)?;
         self.declared.push(Known {
@@ -214,6 +233,7 @@ impl Scope {
         })?;
         put_declared(&mut self.table, name, meaning);
         self.arrays += arrays;
+        self.locals += locals;
         Ok(())
     }
 
@@ -262,17 +282,18 @@ impl Scope {
 
     /// Goes past a line: its declared name is known, and its block is open or closed.
     pub fn pass(&mut self, number: u32, line: &Line) -> Result<(), Memory>
-        requires { self.old.arrays + 4 < 2 ^ 32 }
+        requires { self.old.arrays + self.old.locals + 4 < 2 ^ 32 }
         ensures scope { IfOk result (λ _. self.new ≡ scope_behind self.old number line.now) }
-        ensures few { IfOk result (λ _. self.new.arrays ≤ self.old.arrays + 4) }
+        ensures few { IfOk result (λ _. self.new.arrays + self.new.locals ≤ self.old.arrays + self.old.locals + 4) }
     {
         let next = self.arrays;
         match line {
             Line::Matrix(name, form) => {
-                self.declare(name, Meaning::Matrix(*form, parts_from(next)), 4)
+                self.declare(name, Meaning::Matrix(*form, parts_from(next)), 4, 0)
             }
-            Line::Index(name, size) => self.declare(name, Meaning::Indexes(*size, next), 1),
-            Line::Vector(name, size, _) => self.declare(name, Meaning::Holds(*size, next), 1),
+            Line::Index(name, size) => self.declare(name, Meaning::Indexes(*size, next), 1, 0),
+            Line::Vector(name, size, _) => self.declare(name, Meaning::Holds(*size, next), 1, 0),
+            Line::Local(name) => self.declare(name, Meaning::Local(self.locals), 0, 1),
             Line::Loop(name) => self.open_loop(number, name),
             Line::For(name, _, _) => self.open_loop(number, name),
             Line::When(_, _, _) => self.open_guard(),

@@ -1,13 +1,11 @@
-// Which arrays a text writes.
+// Which arrays the lines write.
 ghost use Rattle.std.specs.Prelude.{◌≡◌, ◌≤◌, ◌<◌, ◌^◌, ℕ, ◌==◌, ◌||◌, ◌+◌, min, [], ◌∷◌, length, IfOk};
 ghost use Rattle.std.specs.List.{list_any};
-ghost use Rattle.text_base.specs.Lines.{lines};
-ghost use Rattle.loop_syntax.specs.Numbered.{numbered};
 ghost use Rattle.loop_syntax.specs.Scope.{empty, scope_after};
 ghost use Rattle.loop_syntax.specs.Counts.{target, targets, reads, data_arrays, is_written};
 ghost use Rattle.loop_syntax.specs.Flags.{is_flagged, AreFlagged, flagged};
 
-use crate::numbered::{Numbered, NumberedLines};
+use crate::numbered::Numbered;
 use crate::resolve::number_of;
 use crate::scope::Scope;
 use loop_lines::line::Line;
@@ -47,26 +45,24 @@ fn flag_target(flags: &mut Vec<bool>, scope: &Scope, line: &Line) -> Result<(), 
 
 /// Flags what a line writes, and goes past it.
 fn step(flags: &mut Vec<bool>, scope: &mut Scope, next: &Numbered) -> Result<(), Memory>
-    requires { scope.old.arrays + 4 < 2 ^ 32 }
+    requires { scope.old.arrays + scope.old.locals + 4 < 2 ^ 32 }
     ensures flags { IfOk result (λ _. (k : ℕ) → is_flagged flags.new.items k ≡ (is_written (target scope.old next.now.line) k || is_flagged flags.old.items k)) }
     ensures scope { IfOk result (λ _. scope.new ≡ scope_after scope.old next.now) }
-    ensures few { IfOk result (λ _. scope.new.arrays ≤ scope.old.arrays + 4) }
+    ensures few { IfOk result (λ _. scope.new.arrays + scope.new.locals ≤ scope.old.arrays + scope.old.locals + 4) }
 {
     flag_target(flags, scope, &next.line)?;
     scope.pass(next.number, &next.line)
 }
 
-/// A flag for each array number: whether some line of the text writes the array. It goes once over
-/// the text.
-pub fn written_arrays(alloc: Global, bytes: &[u8]) -> Result<Vec<bool>, Memory>
-    requires { length bytes.now ≤ 2 ^ 28 }
-    ensures { IfOk result (λ flags. AreFlagged flags.items (targets empty (numbered (lines bytes.now)))) }
+/// A flag for each array number: whether some line writes the array.
+pub fn written_arrays(alloc: Global, lines: &[Numbered]) -> Result<Vec<bool>, Memory>
+    requires { length lines.now ≤ 2 ^ 28 }
+    ensures { IfOk result (λ flags. AreFlagged flags.items (targets empty lines.now)) }
 {
     let mut scope = Scope::new(alloc);
     let mut flags = Vec::new(alloc);
-    let mut left = NumberedLines::of(bytes);
-    while let Some(next) = left.next(alloc)? {
-        step(&mut flags, &mut scope, &next)?;
+    for next in lines {
+        step(&mut flags, &mut scope, next)?;
     }
     Ok(flags)
 }
@@ -92,6 +88,7 @@ fn after_value(flags: &[bool], scope: &Scope, value: &NamedExpr, before: u32) ->
     match value {
         NamedExpr::Lit(_) => before,
         NamedExpr::Read(array, _) => after_array(flags, scope, array, before),
+        NamedExpr::Local(_) => before,
         NamedExpr::Op(_, left, right) => {
             let left = after_value(flags, scope, left.get(), before);
             after_value(flags, scope, right.get(), left)
@@ -109,6 +106,7 @@ pub fn after_line(flags: &[bool], scope: &Scope, line: &Line, before: u32) -> u3
             let reads = after_value(flags, scope, value, before);
             after_array(flags, scope, array, reads)
         }
+        Line::Keep(_, value) => after_value(flags, scope, value, before),
         _ => before,
     }
 }

@@ -14,3 +14,6 @@ decreases-read_sum l = l.fuel
 
 abbrev pub decreases-products : goal.decreases-products
 decreases-products l = l.fuel
+
+abbrev pub decreases-both : goal.decreases-both
+decreases-both l = l.fuel

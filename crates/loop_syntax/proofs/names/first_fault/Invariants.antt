@@ -1,14 +1,10 @@
-use Rattle.std.proofs.Common.{◌≡◌, ◌≤◌, ◌+◌, ◌*◌, ◌^◌, length}
-use Rattle.text_base.specs.Lines.{lines}
-use Rattle.loop_syntax.specs.Numbered.{numbered, left}
+use Rattle.std.proofs.Common.{◌≡◌, ◌≤◌, ◌+◌, ◌*◌, drop}
 use Rattle.loop_syntax.specs.Scope.{empty}
 use Rattle.loop_syntax.specs.NameRules.{first_fault}
 use Rattle.loop_syntax.proofs.names.first_fault.Given as goal
 
-abbrev pub invariant-loop-scope : goal.invariant-loop-scope
-invariant-loop-scope l =
-    (first_fault l.scope (left l.left) ≡ first_fault empty (numbered (lines l.bytes)))
-    × (l.scope.arrays + 4 * length l.left.bytes ≤ 2 ^ 30)
-
-abbrev pub decreases-loop-scope : goal.decreases-loop-scope
-decreases-loop-scope l = length l.left.bytes
+abbrev pub invariant-loop-next : goal.invariant-loop-next
+invariant-loop-next l = record {
+  same : first_fault l.scope (drop l.next-index l.lines) ≡ first_fault empty l.lines;
+  few : l.scope.arrays + l.scope.locals ≤ 4 * l.next-index;
+}
