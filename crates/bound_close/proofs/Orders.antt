@@ -1,23 +1,14 @@
 -- A wider base derives no less, so the order of a base doesn't matter.
 use Rattle.std.proofs.Common.{ℤ, ◌≡◌, inl, inr, refl, sym, subst, ap, arith, List, true, false, Bool, Option, Some, None}
-use Rattle.std.specs.List.{Contains}
 use Rattle.std.proofs.lemmas.Int.{ints}
 use Rattle.loop_core.specs.declared.nest.Atom.{Atom}
 use Rattle.uf_constraints.specs.declared.system.Diff.{Diff}
 use Rattle.index_props.specs.declared.rule.RuleInst.{RuleInst}
-use Rattle.index_props.specs.Derivable.{Derivable, IsContradictory}
-use Rattle.index_props.specs.Derivable.Derivable.{given, same, joined, weaker, fired}
+use Rattle.index_props.specs.Derivable.{IsContradictory}
 use Rattle.bound_close.specs.Closure.{Found, IsClosure, IsLeast, IsBound, AreSame}
 use Rattle.bound_plain.specs.Plain.{Saturated, IsSaturation}
 use Rattle.bound_ways.proofs.Exactly.{test_is}
-use Rattle.bound_close.proofs.Closes.{refuted-is}
-
-pub wider : {u : List Atom} {rules : List RuleInst} (base more : List Diff) → ((d : Diff) → Contains base d → Contains more d) → {a b : Atom} {c : ℤ} → Derivable u base rules a b c → Derivable u more rules a b c
-wider base more s (given d h) = given d (s d h)
-wider base more s (same a h) = same a h
-wider base more s (joined a b d c e g h) = joined a b d c e (wider base more s g) (wider base more s h)
-wider base more s (weaker a b c e g h) = weaker a b c e (wider base more s g) h
-wider base more s (fired r d i ps j) = fired r d i (λ p k. wider base more s (ps p k)) j
+use Rattle.bound_close.proofs.Closes.{refuted-is, wider}
 
 pub plain-refuted : (k : Saturated) (base : List Diff) (rules : List RuleInst) → IsSaturation k base rules → IsContradictory k.atoms base rules → k.refuted ≡ true
 plain-refuted k base rules i d = elim (test_is k.refuted) [

@@ -1,53 +1,49 @@
--- Passes over the instances that wait.
-use Rattle.std.proofs.Common.{ap, take, ℕ, ℤ, ◌<◌, ◌≤◌, ◌+◌, ◌≡◌, ◌⊎◌, inl, inr, arith, refl, List, [], ◌∷◌, ◌++◌, length, slice_index_or, slice_get, subst, sym, ◌∙◌, Some, None}
-use Rattle.std.proofs.lemmas.Bool.{cases_lt}
+-- Instances that wait at a premise that fails.
+use Rattle.std.proofs.Common.{ap, take, replicate, zero, suc, ℕ, ℤ, ◌<◌, ◌≤◌, ◌+◌, ◌≡◌, ◌≢◌, ◌⊎◌, inl, inr, arith, refl, List, [], ◌∷◌, ◌++◌, length, slice_index_or, slice_get, slice_set, subst, sym, ◌∙◌, Some, true, false, get_or-set_other, get_or-set_same}
+use Rattle.std.proofs.lemmas.Bool.{cases_eq}
 use Rattle.std.specs.List.{Contains}
-use Rattle.std.proofs.lemmas.List.{take_more, length-append}
-use Rattle.std.proofs.lemmas.List.Elements.{Contains-push_cases, Contains-push, Contains-append_left}
+use Rattle.std.proofs.lemmas.List.{length-set, length-replicate, take_more}
 use Rattle.std.proofs.Math.Seq.{take-length}
+use Rattle.std.proofs.lemmas.List.Elements.{Contains-push_cases, Contains-push, Contains-append_left}
 use Rattle.loop_core.specs.declared.nest.Atom.{Atom}
 use Rattle.uf_constraints.specs.declared.system.Diff.{Diff}
 use Rattle.index_props.specs.declared.rule.RuleInst.{RuleInst}
 use Rattle.std.specs.Int.Signed.{◌<ℤ◌}
 use Rattle.bound_table.specs.declared.between.Between.{Between}
 use Rattle.bound_table.specs.declared.waiting.Waiting.{Waiting}
+use Rattle.bound_table.specs.Queues.{queue, set_queue, put_in, without}
 use Rattle.bound_close.specs.declared.workings.Workings.{Workings}
-use Rattle.bound_ways.specs.Exact.{bound_of, Holds, Fails, IsLower, Settled}
-use Rattle.bound_ways.specs.Over.{AreRulesOver}
-use Rattle.bound_close.specs.Passes.{Forward, Stopped, IsWatched, Watches, IsWaiting, ResultsHold, PremiseFails, Stays, Fires, Waits, Passed, AllSettled}
-use Rattle.bound_close.specs.Workings.{bounds, IsFine}
+use Rattle.bound_close.specs.declared.engine.Engine.{Engine}
+use Rattle.bound_ways.specs.Exact.{bound_of, Holds, Fails, IsLower}
+use Rattle.bound_ways.specs.Over.{IsOver, AreRulesOver}
+use Rattle.bound_plain.specs.Plain.{IsFired, unfired}
+use Rattle.bound_close.specs.Passes.{Forward, IsWatched, Watches, ResultsHold, AllSettled}
+use Rattle.bound_close.specs.Waits.{marks, edges, Holding, IsWaiting, AreQueues, Tended, IsLater, Looks, Stands, Covered, AllCovered, Steady, Onwards, Looked, IsCovered, IsTending}
+use Rattle.bound_close.specs.Workings.{bounds, IsFine, Moves}
 use Rattle.bound_ways.specs.Places.{place_in}
-use Rattle.bound_ways.proofs.Bounding.{Holds-lower, got, got-is, contains-got, over-take, Holds-none}
-use Rattle.bound_close.proofs.Takes.{forward-same, forward-trans, stopped-trans}
+use Rattle.bound_ways.proofs.Bounding.{a_in, b_in, over-item, Holds-lower, got, got-is, contains-got, over-take, Holds-none}
+use Rattle.bound_plain.proofs.Visits.{fewer_set}
+use Rattle.bound_close.proofs.Takes.{forward-same, forward-trans}
 
 pub results-lower : (u : List Atom) (rules : List RuleInst) (mid new : Workings) (k : ℕ) → AreRulesOver u rules → IsLower (length u) (bounds mid) (bounds new) → ResultsHold u rules mid k → ResultsHold u rules new k
 results-lower u rules mid new k over l h r g = Holds-lower u (bounds mid) (bounds new) r.results l (over r (contains-got rules k r g)).results (h r g)
 
-pub waiting-lower : (u : List Atom) (rules : List RuleInst) (mid new : Workings) (x : Waiting) → AreRulesOver u rules → IsLower (length u) (bounds mid) (bounds new) → IsWaiting u rules mid x → IsWaiting u rules new x
-waiting-lower u rules mid new x over l w = record {
+pub holding-lower : (u : List Atom) (rules : List RuleInst) (mid new : Workings) (k held : ℕ) → AreRulesOver u rules → IsLower (length u) (bounds mid) (bounds new) → Holding u rules mid k held → Holding u rules new k held
+holding-lower u rules mid new k held over l w = record {
   within = w.within;
+  held = λ r g. let h = w.held r g in (h.0, Holds-lower u (bounds mid) (bounds new) (take held r.premises) l (over-take u r.premises held (over r (contains-got rules k r g)).premises) h.1);
+}
+
+pub waiting-lower : (u : List Atom) (rules : List RuleInst) (mid new : Workings) (e : Waiting) → AreRulesOver u rules → IsLower (length u) (bounds mid) (bounds new) → IsWaiting u rules mid e → IsWaiting u rules new e
+waiting-lower u rules mid new e over l w = record {
+  holding = holding-lower u rules mid new e.rule e.held over l w.holding;
+  x = w.x;
+  y = w.y;
   watched = w.watched;
-  held = λ r g. let h = w.held r g in (h.0, Holds-lower u (bounds mid) (bounds new) (take x.premise r.premises) l (over-take u r.premises x.premise (over r (contains-got rules x.rule r g)).premises) h.1);
 }
 
--- an instance of which a premise fails goes on waiting
-pub stays : (u : List Atom) (rules : List RuleInst) (w : Workings) (x : Waiting) (rr : RuleInst) (open_at : ℕ) (p : Between) (before after : List Waiting) → IsWaiting u rules w x → rr ≡ slice_index_or rules x.rule rr → open_at < length rr.premises → Holds u (bounds w) (take open_at rr.premises) → Fails u (bounds w) rr.premises → Watches u rules x.rule p → after ≡ before ++ record { rule = x.rule; premise = open_at; seen = Some p } ∷ [] → Stays u rules w w x.rule before after
-stays u rules w x rr open_at p before after q is lt h f v e = record {
-  same = refl;
-  next = record { rule = x.rule; premise = open_at; seen = Some p };
-  rule = refl;
-  waits = record {
-    within = q.within;
-    watched = λ o e. let same : p ≡ o = cc in subst (λ (o : Between). Watches u rules x.rule o) same v;
-    held = λ r g. let same : rr ≡ r = got-is rules x.rule rr r is g in (subst (λ (r : RuleInst). open_at ≤ length r.premises) same (omega arith), subst (λ (r : RuleInst). Holds u (bounds w) (take open_at r.premises)) same h);
-  };
-  fails = λ r g. let same : rr ≡ r = got-is rules x.rule rr r is g in subst (λ (r : RuleInst). Fails u (bounds w) r.premises) same f;
-  list = e;
-}
-
--- an instance of which the open premise still fails goes on waiting
-pub stays-open : (u : List Atom) (rules : List RuleInst) (w : Workings) (x : Waiting) (before after : List Waiting) → IsWaiting u rules w x → PremiseFails u rules w x.rule → after ≡ before ++ x ∷ [] → Stays u rules w w x.rule before after
-stays-open u rules w x before after q f e = record { same = refl; next = x; rule = refl; waits = q; fails = f; list = e }
+pub holding-none : (u : List Atom) (rules : List RuleInst) (w : Workings) (k : ℕ) → k < length rules → Holding u rules w k 0
+holding-none u rules w k l = record { within = l; held = λ r g. (omega arith, Holds-none u (bounds w) r.premises) }
 
 -- the premise at a place is watched
 pub watches : (u : List Atom) (rules : List RuleInst) (k i : ℕ) (rr : RuleInst) (d : Diff) (p : Between) → rr ≡ slice_index_or rules k rr → i < length rr.premises → d ≡ slice_index_or rr.premises i d → p.x ≡ place_in u d.a → p.y ≡ place_in u d.b → p.bound ≡ d.c → Watches u rules k p
@@ -62,138 +58,531 @@ watches u rules k i rr d p is lt at ex ey ec = record {
 pub watches-at : (u : List Atom) (rules : List RuleInst) (k i : ℕ) (rr : RuleInst) (p : Between) → rr ≡ slice_index_or rules k rr → i < length rr.premises → IsWatched u rr.premises i p → Watches u rules k p
 watches-at u rules k i rr p is lt w = watches u rules k i rr w.watched p is lt w.at w.x w.y w.bound
 
--- it fails where the bound between its places is above its right side
-pub fails-at : (u : List Atom) (T : ℕ → ℕ → ℤ) (ds : List Diff) (i : ℕ) (p : Between) → i < length ds → IsWatched u ds i p → p.bound <ℤ T p.x p.y → Fails u T ds
-fails-at u T ds i p lt w h =
-    let low : w.watched.c <ℤ bound_of u T w.watched = rw (w.x, w.y, w.bound) at h in
-    (w.watched, (i, lt, sym w.at), low)
+-- the bound between its places is above its right side
+pub low-at : (u : List Atom) (T : ℕ → ℕ → ℤ) (ds : List Diff) (i : ℕ) (p : Between) → i < length ds → ((d : Diff) → slice_get ds i ≡ Some d → d.c <ℤ bound_of u T d) → IsWatched u ds i p → p.bound <ℤ T p.x p.y
+low-at u T ds i p lt h w = rw (w.x, w.y, w.bound) (h w.watched (got ds i w.watched lt w.at))
 
-pub passed-none : (u : List Atom) (rules : List RuleInst) (w : Workings) (waiting still : List Waiting) → IsFine u w → length still ≡ 0 → Passed u rules w w (take 0 waiting) still
-passed-none u rules w waiting still f e = record {
-  forward = forward-same u rules w f;
-  fired = λ k h. absurd (let l = h.1.1 in omega arith);
-  waits = λ x h. absurd (let l = h.1 in omega arith);
-  short = omega arith;
-  quiet = λ q k h. absurd (let l = h.1.1 in omega arith);
-}
+-- an instance that waits at a premise
+pub waits-open : (u : List Atom) (rules : List RuleInst) (w : Workings) (k : ℕ) (rr : RuleInst) (ps : List Diff) (n i : ℕ) (p : Between) → AreRulesOver u rules → k < length rules → rr ≡ slice_index_or rules k rr → ps ≡ rr.premises → n < length ps → Holds u (bounds w) (take n ps) → i < length ps → IsWatched u ps i p → IsWaiting u rules w record { rule = k; held = n; seen = p }
+waits-open u rules w k rr ps n i p over lt is same few held l seen =
+    let at = got rules k rr lt is in
+    let o = (over rr (contains-got rules k rr at)).premises in
+    let below : i < length rr.premises = subst (λ (l : List Diff). i < length l) same l in
+    let watched : IsWatched u rr.premises i p = subst (λ (l : List Diff). IsWatched u l i p) same seen in
+    let there : IsOver u watched.watched = over-item u rr.premises i watched.watched o below watched.at in
+    record {
+      holding = record {
+        within = lt;
+        held = λ r g.
+            let one : rr ≡ r = got-is rules k rr r is g in
+            let all : ps ≡ r.premises = same ∙ ap (λ (r : RuleInst). r.premises) one in
+            (subst (λ (l : List Diff). n ≤ length l) all (omega arith), subst (λ (l : List Diff). Holds u (bounds w) (take n l)) all held);
+      };
+      x = subst (λ (v : ℕ). v < length u) (sym watched.x) (a_in u watched.watched there);
+      y = subst (λ (v : ℕ). v < length u) (sym watched.y) (b_in u watched.watched there);
+      watched = watches-at u rules k i rr p is below watched;
+    }
 
-module _ (u : List Atom) (rules : List RuleInst) (over : AreRulesOver u rules) (waiting : List Waiting) (old mid new : Workings) (i : ℕ) (x : Waiting) (still after : List Waiting) (lt : i < length waiting) (is : x ≡ slice_index_or waiting i x) (p : Passed u rules old mid (take i waiting) still) (f : Forward u rules mid new) where
-  one_more : length (take (i + 1) waiting) ≡ length (take i waiting) + 1
-  one_more = let e = take_more waiting i x lt in let n = length-append (take i waiting) (slice_index_or waiting i x ∷ []) in ap length e ∙ omega arith
+-- Queues.
 
-  which : (y : Waiting) → Contains (take (i + 1) waiting) y → Contains (take i waiting) y ⊎ (x ≡ y)
-  which y h = elim (Contains-push_cases (take i waiting) (slice_index_or waiting i x) y (subst (λ (l : List Waiting). Contains l y) (take_more waiting i x lt) h)) [
-    | inl q ↦ inl q
-    | inr q ↦ inr (is ∙ q)
+module _ (rows : List (List (List Waiting))) (x y : ℕ) (q : List Waiting) (lx : x < length rows) where
+  pub set-there : y < length (slice_index_or rows x []) → queue (set_queue rows x y q) x y ≡ q
+  set-there ly =
+      let row : slice_index_or (set_queue rows x y q) x [] ≡ slice_set (slice_index_or rows x []) y q = rw get_or-set_same refl in
+      rw row (rw get_or-set_same refl)
+
+  pub set-other : (v w : ℕ) → (v ≢ x) ⊎ (w ≢ y) → queue (set_queue rows x y q) v w ≡ queue rows v w
+  set-other v w d = elim (cases_eq v x) [
+    | inl e ↦ elim d [
+      | inl n ↦ absurd (n e)
+      | inr n ↦
+          let row : slice_index_or (set_queue rows x y q) x [] ≡ slice_set (slice_index_or rows x []) y q = rw get_or-set_same refl in
+          rw e (rw row (rw get_or-set_other refl))
+    ]
+    | inr n ↦ (let row : slice_index_or (set_queue rows x y q) v [] ≡ slice_index_or rows v [] = rw get_or-set_other refl in rw row refl)
   ]
 
-  lower : IsLower (length u) (bounds mid) (bounds new)
-  lower = (f.onward []).lower
-
-  all_forward : Forward u rules old new
-  all_forward = forward-trans u rules old mid new p.forward f
-
-  pub passed-stays : Stays u rules mid new x.rule still after → Passed u rules old new (take (i + 1) waiting) after
-  passed-stays s =
-      let l = length-append still (s.next ∷ []) in
-      let long : length after ≡ length still + 1 = ap length s.list ∙ omega arith in
-      let m = one_more in
-      record {
-        forward = all_forward;
-        fired = λ k h. elim (which h.0 h.1) [
-          | inl q ↦ elim (p.fired k (h.0, q, h.2)) [
-            | inl w ↦ inl (w.0, rw s.list (Contains-append_left still (s.next ∷ []) w.0 w.1), w.2)
-            | inr g ↦ inr (results-lower u rules mid new k over lower g)
-          ]
-          | inr q ↦ inl (s.next, rw s.list (Contains-push still s.next), s.rule ∙ ap (λ (y : Waiting). y.rule) q ∙ h.2)
-        ];
-        waits = λ y h. elim (Contains-push_cases still s.next y (rw s.list at h)) [
-          | inl q ↦ waiting-lower u rules mid new y over lower (p.waits y q)
-          | inr q ↦ subst (λ (y : Waiting). IsWaiting u rules new y) q s.waits
-        ];
-        short = let t = p.short in omega arith;
-        quiet = λ e k h. elim (which h.0 h.1) [
-          | inl q ↦ subst (λ (w : Workings). PremiseFails u rules w k) (sym s.same) (p.quiet (omega arith) k (h.0, q, h.2))
-          | inr q ↦ subst (λ (k : ℕ). PremiseFails u rules new k) (ap (λ (y : Waiting). y.rule) q ∙ h.2) s.fails
-        ];
-      }
-
-  pub passed-fires : Fires u rules new x.rule still after → Passed u rules old new (take (i + 1) waiting) after
-  passed-fires s =
-      let long : length after ≡ length still = ap length s.list in
-      let m = one_more in
-      record {
-        forward = all_forward;
-        fired = λ k h. elim (which h.0 h.1) [
-          | inl q ↦ elim (p.fired k (h.0, q, h.2)) [
-            | inl w ↦ inl (w.0, rw s.list w.1, w.2)
-            | inr g ↦ inr (results-lower u rules mid new k over lower g)
-          ]
-          | inr q ↦ inr (subst (λ (k : ℕ). ResultsHold u rules new k) (ap (λ (y : Waiting). y.rule) q ∙ h.2) s.holds)
-        ];
-        waits = λ y h. waiting-lower u rules mid new y over lower (p.waits y (rw s.list at h));
-        short = let t = p.short in omega arith;
-        quiet = λ e k h. absurd (let t = p.short in omega arith);
-      }
-
-  pub passed-next : Stays u rules mid new x.rule still after ⊎ Fires u rules new x.rule still after → Passed u rules old new (take (i + 1) waiting) after
-  passed-next c = elim c [ inl s ↦ passed-stays s | inr s ↦ passed-fires s ]
-
-pub passed-all : (u : List Atom) (rules : List RuleInst) (old new : Workings) (waiting still : List Waiting) (i : ℕ) → i ≡ length waiting → Passed u rules old new (take i waiting) still → Passed u rules old new waiting still
-passed-all u rules old new waiting still i e p = subst (λ (l : List Waiting). Passed u rules old new l still) (ap (λ (n : ℕ). take n waiting) e ∙ take-length waiting) p
-
--- what is kept between passes
-pub record Saturating (u : List Atom) (rules : List RuleInst) (old w : Workings) (waiting : List Waiting) : Type 0 where
-  pub forward : Forward u rules old w
-  pub fired : (k : ℕ) → k < length rules → Waits waiting k ⊎ ResultsHold u rules w k
-  pub waits : (x : Waiting) → Contains waiting x → IsWaiting u rules w x
-
-pub saturating-first : (u : List Atom) (rules : List RuleInst) (w : Workings) (waiting : List Waiting) → IsFine u w → ((k : ℕ) → k < length rules → Contains waiting record { rule = k; premise = 0; seen = None }) → ((x : Waiting) → Contains waiting x → (x.rule < length rules) × (x.premise ≡ 0) × (x.seen ≡ None)) → Saturating u rules w w waiting
-saturating-first u rules w waiting f each below = record {
-  forward = forward-same u rules w f;
-  fired = λ k l. inl (record { rule = k; premise = 0; seen = None }, each k l, refl);
-  waits = λ x h. let b = below x h in record {
-    within = b.0;
-    watched = λ p e. absurd (let f = b.2 in cc);
-    held = λ r g. (omega arith, subst (λ (n : ℕ). Holds u (bounds w) (take n r.premises)) (sym b.1) (Holds-none u (bounds w) r.premises));
-  };
-}
-
-module _ (u : List Atom) (rules : List RuleInst) (over : AreRulesOver u rules) (old w new : Workings) (waiting still : List Waiting) (s : Saturating u rules old w waiting) where
-  pub saturating-next : Passed u rules w new waiting still → Saturating u rules old new still
-  saturating-next p = record {
-    forward = forward-trans u rules old w new s.forward p.forward;
-    fired = λ k l. elim (s.fired k l) [
-      | inl h ↦ p.fired k h
-      | inr h ↦ inr (results-lower u rules w new k over (p.forward.onward []).lower h)
+  pub queues-set : (n : ℕ) → AreQueues n rows → AreQueues n (set_queue rows x y q)
+  queues-set n h = record {
+    long = length-set rows x (slice_set (slice_index_or rows x []) y q) ∙ h.long;
+    wide = λ k l. elim (cases_eq k x) [
+      | inl e ↦ (let row : slice_index_or (set_queue rows x y q) x [] ≡ slice_set (slice_index_or rows x []) y q = rw get_or-set_same refl in
+          rw e (ap length row ∙ length-set (slice_index_or rows x []) y q ∙ h.wide x (subst (λ (m : ℕ). m < n) e l)))
+      | inr ne ↦ (let row : slice_index_or (set_queue rows x y q) k [] ≡ slice_index_or rows k [] = rw get_or-set_other refl in ap length row ∙ h.wide k l)
     ];
-    waits = p.waits;
   }
 
-  pub saturating-stop : Stopped u rules w new → Stopped u rules old new
-  saturating-stop = stopped-trans u rules old w new s.forward
+pub same-pair : (v w x y : ℕ) → ((v ≡ x) × (w ≡ y)) ⊎ ((v ≢ x) ⊎ (w ≢ y))
+same-pair v w x y = elim (cases_eq v x) [
+  | inl e ↦ elim (cases_eq w y) [
+    | inl f ↦ inl (e, f)
+    | inr n ↦ inr (inr n)
+  ]
+  | inr n ↦ inr (inl n)
+]
 
-  settled_at : (p : Passed u rules w new waiting still) → length still ≡ length waiting → (r : RuleInst) (k : ℕ) → k < length rules → slice_get rules k ≡ Some r → Settled u (bounds new) r
-  settled_at p e r k l g = elim (s.fired k l) [
-    | inl h ↦ inl (p.quiet e k h r g)
-    | inr h ↦ inr (results-lower u rules w new k over (p.forward.onward []).lower h r g)
+-- Bounds that are lowered.
+
+pub looks-moves : (m : ℕ) (old new : Workings) (s t cx cy : ℕ) (e : Waiting) → Moves m old new → e.seen.x < m → e.seen.y < m → t ≤ length old.table.edges.items → Looks old s t cx cy e → Looks new s t cx cy e
+looks-moves m old new s t cx cy e v lx ly le h = elim (v.each e.seen.x e.seen.y lx ly) [
+  | inl k ↦ elim h [
+    | inl a ↦ inl (subst (λ (z : ℤ). e.seen.bound <ℤ z) (sym k.0) a)
+    | inr b ↦ elim b [
+      | inl c ↦ inr (inl (let f = k.1 in omega arith))
+      | inr c ↦ inr (inr (let f = k.1 in let g = c.0 in omega arith, c.1))
+    ]
+  ]
+  | inr k ↦ inr (inl (omega arith))
+]
+
+-- What is covered.
+
+module _ (u : List Atom) (rules : List RuleInst) where
+  pub steady-same : (g : Engine) → Tended u rules g → Steady u rules g g
+  steady-same g h = record {
+    forward = forward-same u rules g.workings h.fine;
+    tended = h;
+    longer = omega arith;
+    fewer = omega arith;
+    same = λ e. refl;
+  }
+
+  pub steady-trans : (old mid new : Engine) → Steady u rules old mid → Steady u rules mid new → Steady u rules old new
+  steady-trans old mid new f g = record {
+    forward = forward-trans u rules old.workings mid.workings new.workings f.forward g.forward;
+    tended = g.tended;
+    longer = (let a = f.longer in let b = g.longer in omega arith);
+    fewer = (let a = f.fewer in let b = g.fewer in omega arith);
+    same = λ e. (let a = f.fewer in let b = g.fewer in g.same (omega arith) ∙ f.same (omega arith));
+  }
+
+  pub onwards-same : (g : Engine) → Tended u rules g → Onwards u rules g g
+  onwards-same g h = record { steady = steady-same g h; covers = λ s t cx cy k l c. c }
+
+  pub onwards-trans : (old mid new : Engine) → Onwards u rules old mid → Onwards u rules mid new → Onwards u rules old new
+  onwards-trans old mid new f g = record {
+    steady = steady-trans old mid new f.steady g.steady;
+    covers = λ s t cx cy k l c. (let a = f.steady.longer in g.covers s t cx cy k (omega arith) (f.covers s t cx cy k l c));
+  }
+
+  pub looked-same : (s cx cy : ℕ) (g : Engine) → Tended u rules g → Looked u rules s cx cy cx cy g g
+  looked-same s cx cy g h = record { steady = steady-same g h; covers = λ t k l c. c }
+
+  pub looked-trans : (s ax ay bx by cx cy : ℕ) (old mid new : Engine) → Looked u rules s ax ay bx by old mid → Looked u rules s bx by cx cy mid new → Looked u rules s ax ay cx cy old new
+  looked-trans s ax ay bx by cx cy old mid new f g = record {
+    steady = steady-trans old mid new f.steady g.steady;
+    covers = λ t k l c. (let a = f.steady.longer in g.covers t k (omega arith) (f.covers t k l c));
+  }
+
+  pub fired-covered : (g : Engine) (k : ℕ) → IsFired g.fired.items k → IsCovered u g k
+  fired-covered g k h s t cx cy = inl h
+
+  -- an instance goes into a queue
+  module _ (old new : Engine) (e : Waiting) (h : Tended u rules old) (w : IsWaiting u rules old.workings e) (low : e.seen.bound <ℤ bounds old.workings e.seen.x e.seen.y) (sw : new.workings ≡ old.workings) (sf : new.fired ≡ old.fired) (sq : new.queues.rows.items ≡ put_in old.queues.rows.items e.seen.x e.seen.y e) where
+    in_x : e.seen.x < length old.queues.rows.items
+    in_x = let l = h.queues.long in let x = w.x in omega arith
+
+    in_y : e.seen.y < length (slice_index_or old.queues.rows.items e.seen.x [])
+    in_y = let l = h.queues.wide e.seen.x w.x in let y = w.y in omega arith
+
+    put_there : queue new.queues.rows.items e.seen.x e.seen.y ≡ queue old.queues.rows.items e.seen.x e.seen.y ++ e ∷ []
+    put_there = rw sq (set-there old.queues.rows.items e.seen.x e.seen.y (queue old.queues.rows.items e.seen.x e.seen.y ++ e ∷ []) in_x in_y)
+
+    put_other : (x y : ℕ) → (x ≢ e.seen.x) ⊎ (y ≢ e.seen.y) → queue new.queues.rows.items x y ≡ queue old.queues.rows.items x y
+    put_other x y d = rw sq (set-other old.queues.rows.items e.seen.x e.seen.y (queue old.queues.rows.items e.seen.x e.seen.y ++ e ∷ []) in_x x y d)
+
+    kept : (x y : ℕ) (f : Waiting) → Contains (queue old.queues.rows.items x y) f → Contains (queue new.queues.rows.items x y) f
+    kept x y f c = elim (same-pair x y e.seen.x e.seen.y) [
+      | inl p ↦ subst (λ (l : List Waiting). Contains l f) (sym (ap (λ (v : ℕ). queue new.queues.rows.items v y) p.0 ∙ ap (queue new.queues.rows.items e.seen.x) p.1 ∙ put_there)) (Contains-append_left (queue old.queues.rows.items e.seen.x e.seen.y) (e ∷ []) f (subst (λ (l : List Waiting). Contains l f) (ap (λ (v : ℕ). queue old.queues.rows.items v y) p.0 ∙ ap (queue old.queues.rows.items e.seen.x) p.1) c))
+      | inr n ↦ subst (λ (l : List Waiting). Contains l f) (sym (put_other x y n)) c
+    ]
+
+    only : (x y : ℕ) (f : Waiting) → Contains (queue new.queues.rows.items x y) f → Contains (queue old.queues.rows.items x y) f ⊎ (e ≡ f)
+    only x y f c = elim (same-pair x y e.seen.x e.seen.y) [
+      | inl p ↦ elim (Contains-push_cases (queue old.queues.rows.items e.seen.x e.seen.y) e f (subst (λ (l : List Waiting). Contains l f) (ap (λ (v : ℕ). queue new.queues.rows.items v y) p.0 ∙ ap (queue new.queues.rows.items e.seen.x) p.1 ∙ put_there) c)) [
+        | inl a ↦ inl (subst (λ (l : List Waiting). Contains l f) (sym (ap (λ (v : ℕ). queue old.queues.rows.items v y) p.0 ∙ ap (queue old.queues.rows.items e.seen.x) p.1)) a)
+        | inr b ↦ inr b
+      ]
+      | inr n ↦ inl (subst (λ (l : List Waiting). Contains l f) (put_other x y n) c)
+    ]
+
+    put_tended : Tended u rules new
+    put_tended = record {
+      fine = rw sw h.fine;
+      many = rw sf h.many;
+      queues = rw sq (queues-set old.queues.rows.items e.seen.x e.seen.y (queue old.queues.rows.items e.seen.x e.seen.y ++ e ∷ []) in_x (length u) h.queues);
+      done = λ k g. rw sw (h.done k (rw sf at g));
+      waiting = λ x y f c. elim (only x y f c) [
+        | inl a ↦ rw sw (h.waiting x y f a)
+        | inr b ↦ rw sw (subst (λ (f : Waiting). IsWaiting u rules old.workings f) b w)
+      ];
+    }
+
+    pub put-onwards : Onwards u rules old new
+    put-onwards = record {
+      steady = record {
+        forward = rw sw (forward-same u rules old.workings h.fine);
+        tended = put_tended;
+        longer = rw sw (omega arith);
+        fewer = rw sf (omega arith);
+        same = λ e. rw sw refl;
+      };
+      covers = λ s t cx cy k l c. elim c [
+        | inl a ↦ inl (rw sf a)
+        | inr b ↦ inr (b.0, record { rule = b.1.rule; x = b.1.x; y = b.1.y; there = kept b.0.seen.x b.0.seen.y b.0 b.1.there }, rw sw b.2)
+      ];
+    }
+
+    pub put-covered : IsCovered u new e.rule
+    put-covered s t cx cy = inr (e, record { rule = refl; x = w.x; y = w.y; there = rw put_there (Contains-push (queue old.queues.rows.items e.seen.x e.seen.y) e) }, inl (rw sw low))
+
+  -- an instance fires
+  module _ (over : AreRulesOver u rules) (old new : Engine) (i : ℕ) (h : Tended u rules old) (lt : i < length rules) (first : slice_index_or old.fired.items i false ≡ false) (f : Forward u rules old.workings new.workings) (r : ResultsHold u rules new.workings i) (sf : new.fired.items ≡ slice_set old.fired.items i true) (sq : new.queues ≡ old.queues) where
+    in_i : i < length old.fired.items
+    in_i = let m = h.many in omega arith
+
+    pub fired-now : IsFired new.fired.items i
+    fired-now = let l = in_i in rw sf (rw get_or-set_same refl)
+
+    fired_before : (k : ℕ) → IsFired new.fired.items k → (k ≡ i) ⊎ IsFired old.fired.items k
+    fired_before k g = elim (cases_eq k i) [
+      | inl e ↦ inl e
+      | inr n ↦ inr (let other : slice_index_or (slice_set old.fired.items i true) k false ≡ slice_index_or old.fired.items k false = rw get_or-set_other refl in sym other ∙ (rw sf at g))
+    ]
+
+    fired_still : (k : ℕ) → IsFired old.fired.items k → IsFired new.fired.items k
+    fired_still k g = elim (cases_eq k i) [
+      | inl e ↦ subst (λ (k : ℕ). IsFired new.fired.items k) (sym e) fired-now
+      | inr n ↦ rw sf (rw get_or-set_other g)
+    ]
+
+    lower : IsLower (length u) (bounds old.workings) (bounds new.workings)
+    lower = (f.onward []).lower
+
+    fire_tended : Tended u rules new
+    fire_tended = record {
+      fine = f.fine;
+      many = rw sf (length-set old.fired.items i true ∙ h.many);
+      queues = rw sq h.queues;
+      done = λ k g. elim (fired_before k g) [
+        | inl e ↦ subst (λ (k : ℕ). ResultsHold u rules new.workings k) (sym e) r
+        | inr a ↦ results-lower u rules old.workings new.workings k over lower (h.done k a)
+      ];
+      waiting = λ x y e c. waiting-lower u rules old.workings new.workings e over lower (h.waiting x y e (rw sq at c));
+    }
+
+    pub fire-onwards : Onwards u rules old new
+    fire-onwards =
+        let less : unfired new.fired.items < unfired old.fired.items = rw sf (fewer_set old.fired.items i in_i first) in
+        record {
+          steady = record {
+            forward = f;
+            tended = fire_tended;
+            longer = f.moves.longer;
+            fewer = omega arith;
+            same = λ e. absurd (omega arith);
+          };
+          covers = λ s t cx cy k l c. elim c [
+            | inl a ↦ inl (fired_still k a)
+            | inr b ↦ inr (b.0, record { rule = b.1.rule; x = b.1.x; y = b.1.y; there = rw sq b.1.there }, looks-moves (length u) old.workings new.workings s t cx cy b.0 f.moves b.1.x b.1.y l b.2)
+          ];
+        }
+
+  -- the queue of a pair is taken, and each of its instances is looked at
+  module _ (old mid : Engine) (x y : ℕ) (list : List Waiting) (h : Tended u rules old) (lx : x < length u) (ly : y < length u) (is : list ≡ queue old.queues.rows.items x y) (sw : mid.workings ≡ old.workings) (sf : mid.fired ≡ old.fired) (sq : mid.queues.rows.items ≡ without old.queues.rows.items x y) where
+    at_x : x < length old.queues.rows.items
+    at_x = let l = h.queues.long in omega arith
+
+    at_y : y < length (slice_index_or old.queues.rows.items x [])
+    at_y = let l = h.queues.wide x lx in omega arith
+
+    left : (v w : ℕ) (f : Waiting) → Contains (queue mid.queues.rows.items v w) f → Contains (queue old.queues.rows.items v w) f
+    left v w f c = elim (same-pair v w x y) [
+      | inl p ↦
+          let bare : queue mid.queues.rows.items x y ≡ [] = rw sq (set-there old.queues.rows.items x y [] at_x at_y) in
+          let gone : queue mid.queues.rows.items v w ≡ [] = ap (λ (a : ℕ). queue mid.queues.rows.items a w) p.0 ∙ ap (queue mid.queues.rows.items x) p.1 ∙ bare in
+          let none : Contains {X = Waiting} [] f = subst (λ (l : List Waiting). Contains l f) gone c in
+          absurd (let l = none.1 in omega arith)
+      | inr n ↦ subst (λ (l : List Waiting). Contains l f) (rw sq (set-other old.queues.rows.items x y [] at_x v w n)) c
+    ]
+
+    pub take-tended : Tended u rules mid
+    take-tended = record {
+      fine = rw sw h.fine;
+      many = rw sf h.many;
+      queues = rw sq (queues-set old.queues.rows.items x y [] at_x (length u) h.queues);
+      done = λ k g. rw sw (h.done k (rw sf at g));
+      waiting = λ v w f c. rw sw (h.waiting v w f (left v w f c));
+    }
+
+    pub taken-waits : (e : Waiting) → Contains list e → IsWaiting u rules mid.workings e
+    taken-waits e c = rw sw (h.waiting x y e (rw is at c))
+
+    pub pair-looked : (new : Engine) (since : ℕ) → Onwards u rules mid new → ((e : Waiting) → Contains list e → (s t cx cy : ℕ) → t ≤ edges mid → Covered u new s t cx cy e.rule) → Looked u rules since x y x (y + 1) old new
+    pair-looked new since o seen = record {
+      steady = record {
+        forward = rw sw at o.steady.forward;
+        tended = o.steady.tended;
+        longer = rw sw at o.steady.longer;
+        fewer = rw sf at o.steady.fewer;
+        same = rw (sf, sw) at o.steady.same;
+      };
+      covers = λ t k l c. elim c [
+        | inl a ↦ o.covers since t x (y + 1) k (rw sw l) (inl (rw sf a))
+        | inr b ↦ elim (same-pair b.0.seen.x b.0.seen.y x y) [
+          | inl p ↦
+              let there : Contains list b.0 = rw is (subst (λ (l : List Waiting). Contains l b.0) (ap (λ (a : ℕ). queue old.queues.rows.items a b.0.seen.y) p.0 ∙ ap (queue old.queues.rows.items x) p.1) b.1.there) in
+              subst (λ (k : ℕ). Covered u new since t x (y + 1) k) b.1.rule (seen b.0 there since t x (y + 1) (rw sw l))
+          | inr n ↦ o.covers since t x (y + 1) k (rw sw l) (inr (b.0, record { rule = b.1.rule; x = b.1.x; y = b.1.y; there = rw sq (rw (set-other old.queues.rows.items x y [] at_x b.0.seen.x b.0.seen.y n) b.1.there) }, rw sw (past since t b.0 n b.2)))
+        ]
+      ];
+    }
+      where
+        past : (s t : ℕ) (e : Waiting) → (e.seen.x ≢ x) ⊎ (e.seen.y ≢ y) → Looks old.workings s t x y e → Looks old.workings s t x (y + 1) e
+        past s t e n q = elim q [
+          | inl a ↦ inl a
+          | inr b ↦ elim b [
+            | inl c ↦ inr (inl c)
+            | inr c ↦ elim c.1 [
+              | inl d ↦ inr (inr (c.0, inl d))
+              | inr d ↦ elim n [
+                | inl ne ↦ absurd (ne (sym d.0))
+                | inr ne ↦ inr (inr (c.0, inr (d.0, let g = d.1 in omega arith)))
+              ]
+            ]
+          ]
+        ]
+
+  -- a pair of which the bound wasn't lowered
+  pub pair-quiet : (g : Engine) (since x y : ℕ) → Tended u rules g → marks g.workings x y < since → Looked u rules since x y x (y + 1) g g
+  pair-quiet g since x y h l = record {
+    steady = steady-same g h;
+    covers = λ t k m c. elim c [
+      | inl a ↦ inl a
+      | inr b ↦ inr (b.0, b.1, past t b.0 b.2)
+    ];
+  }
+    where
+      past : (t : ℕ) (e : Waiting) → Looks g.workings since t x y e → Looks g.workings since t x (y + 1) e
+      past t e q = elim q [
+        | inl a ↦ inl a
+        | inr b ↦ elim b [
+          | inl c ↦ inr (inl c)
+          | inr c ↦ elim c.1 [
+            | inl d ↦ inr (inr (c.0, inl d))
+            | inr d ↦ elim (same-pair e.seen.x e.seen.y x y) [
+              | inl p ↦
+                  let m : since ≤ marks g.workings x y = rw p.1 at (rw p.0 at c.0) in
+                  absurd (omega arith)
+              | inr n ↦ elim n [
+                | inl ne ↦ absurd (ne (sym d.0))
+                | inr ne ↦ inr (inr (c.0, inr (d.0, let g = d.1 in omega arith)))
+              ]
+            ]
+          ]
+        ]
+      ]
+
+  -- a whole row
+  pub row-looked : (s cx cy x : ℕ) (old new : Engine) → Looked u rules s cx cy x (length u) old new → Looked u rules s cx cy (x + 1) 0 old new
+  row-looked s cx cy x old new h = record {
+    steady = h.steady;
+    covers = λ t k l c. elim (h.covers t k l c) [
+      | inl a ↦ inl a
+      | inr b ↦ inr (b.0, b.1, past t b.0 b.1.y b.2)
+    ];
+  }
+    where
+      past : (t : ℕ) (e : Waiting) → e.seen.y < length u → Looks new.workings s t x (length u) e → Looks new.workings s t (x + 1) 0 e
+      past t e ly q = elim q [
+        | inl a ↦ inl a
+        | inr b ↦ elim b [
+          | inl c ↦ inr (inl c)
+          | inr c ↦ elim c.1 [
+            | inl d ↦ elim (cases_eq (x + 1) e.seen.x) [
+              | inl p ↦ inr (inr (c.0, inr (p, omega arith)))
+              | inr n ↦ inr (inr (c.0, inl (omega arith)))
+            ]
+            | inr d ↦ absurd (let g = d.1 in omega arith)
+          ]
+        ]
+      ]
+
+  -- the whole table
+  pub all-looked : (s : ℕ) (old new : Engine) → AllCovered u rules old s → Looked u rules s 0 0 (length u) 0 old new → AllCovered u rules new (edges old)
+  all-looked s old new h l t k lt = elim (l.covers (edges old) k (omega arith) (h (edges old) k lt)) [
+    | inl a ↦ inl a
+    | inr b ↦ inr (b.0, b.1, past b.0 b.1.x b.2)
+  ]
+    where
+      past : (e : Waiting) → e.seen.x < length u → Looks new.workings s (edges old) (length u) 0 e → Looks new.workings (edges old) t 0 0 e
+      past e lx q = elim q [
+        | inl a ↦ inl a
+        | inr b ↦ elim b [
+          | inl c ↦ inr (inr (c, at_start e))
+          | inr c ↦ elim c.1 [
+            | inl d ↦ absurd (omega arith)
+            | inr d ↦ absurd (let g = d.0 in omega arith)
+          ]
+        ]
+      ]
+        where
+          at_start : (e : Waiting) → IsLater 0 0 e.seen.x e.seen.y
+          at_start e = elim (cases_eq 0 e.seen.x) [
+            | inl p ↦ inr (p, omega arith)
+            | inr n ↦ inl (omega arith)
+          ]
+
+  pub fewer-fired : (old new : Engine) → Steady u rules old new → edges new ≢ edges old → unfired new.fired.items < unfired old.fired.items
+  fewer-fired old new h n = elim (cases_eq (unfired new.fired.items) (unfired old.fired.items)) [
+    | inl e ↦ absurd (n (h.same e))
+    | inr ne ↦ (let f = h.fewer in omega arith)
   ]
 
-  pub saturating-done : Passed u rules w new waiting still → length still ≡ length waiting → AllSettled u rules new
-  saturating-done p e r h = settled_at p e r h.0 h.1 (got rules h.0 r h.1 (sym h.2))
+  -- an instance that is covered for some pairs of numbers is so from the first on
+  pub covered-from : (g : Engine) (s k : ℕ) → Covered u g s s 0 0 k → (t : ℕ) → Covered u g s t 0 0 k
+  covered-from g s k c t = elim c [
+    | inl a ↦ inl a
+    | inr b ↦ inr (b.0, b.1, past b.0 b.2)
+  ]
+    where
+      past : (e : Waiting) → Looks g.workings s s 0 0 e → Looks g.workings s t 0 0 e
+      past e q = elim q [
+        | inl a ↦ inl a
+        | inr b ↦ elim b [
+          | inl c ↦ inr (inr (c, at_start e))
+          | inr c ↦ inr (inr c)
+        ]
+      ]
+        where
+          at_start : (e : Waiting) → IsLater 0 0 e.seen.x e.seen.y
+          at_start e = elim (cases_eq 0 e.seen.x) [
+            | inl p ↦ inr (p, omega arith)
+            | inr n ↦ inl (omega arith)
+          ]
 
-pub below-each : (now new : List Waiting) (n : ℕ) → new ≡ now ++ record { rule = n; premise = 0; seen = None } ∷ [] → ((k : ℕ) → k < n → Contains now record { rule = k; premise = 0; seen = None }) → (k : ℕ) → k < n + 1 → Contains new record { rule = k; premise = 0; seen = None }
-below-each now new n e h k l =
-    let x : Waiting = record { rule = n; premise = 0; seen = None } in
-    let y : Waiting = record { rule = k; premise = 0; seen = None } in
-    elim (cases_lt k n) [
-      | inl lt ↦ rw e (Contains-append_left now (x ∷ []) y (h k lt))
-      | inr ge ↦ (let same : n ≡ k = omega arith in rw e (subst (λ (k : ℕ). Contains (now ++ x ∷ []) record { rule = k; premise = 0; seen = None }) same (Contains-push now x)))
+  -- once no instance has to be looked at, each has fired or has a premise that fails
+  pub settled : (g : Engine) → IsTending u rules g → AllSettled u rules g.workings
+  settled g h r i = elim (h.covered (edges g) i.0 i.1) [
+    | inl a ↦ inr (h.tended.done i.0 a r (got rules i.0 r i.1 (sym i.2)))
+    | inr b ↦ inl (fails b.0 b.1 b.2)
+  ]
+    where
+      fails : (e : Waiting) → Stands u g i.0 e → Looks g.workings (edges g) (edges g) 0 0 e → Fails u (bounds g.workings) r.premises
+      fails e st q =
+          let n = h.tended.fine.long in
+          let p = st.x in
+          let o = st.y in
+          let below : marks g.workings e.seen.x e.seen.y < edges g = h.tended.fine.traced.below e.seen.x e.seen.y (omega arith) (omega arith) in
+          let at : slice_get rules e.rule ≡ Some r = subst (λ (k : ℕ). slice_get rules k ≡ Some r) (sym st.rule) (got rules i.0 r i.1 (sym i.2)) in
+          elim q [
+            | inl a ↦ (h.tended.waiting e.seen.x e.seen.y e st.there).watched.fails (bounds g.workings) a r at
+            | inr b ↦ elim b [
+              | inl c ↦ absurd (omega arith)
+              | inr c ↦ absurd (let m = c.0 in omega arith)
+            ]
+          ]
+
+-- nothing waits yet
+none-fired : (n k : ℕ) → slice_index_or (replicate n false) k false ≡ false
+none-fired zero k = refl
+none-fired (suc n) zero = refl
+none-fired (suc n) (suc k) = none-fired n k
+
+abbrev none : List Waiting
+none = []
+
+none-there : (m y : ℕ) → slice_index_or (replicate m none) y none ≡ none
+none-there zero y = refl
+none-there (suc m) zero = refl
+none-there (suc m) (suc y) = none-there m y
+
+none-queued : (n m x y : ℕ) → queue (replicate n (replicate m [])) x y ≡ []
+none-queued zero m x y = refl
+none-queued (suc n) m zero y = none-there m y
+none-queued (suc n) m (suc x) y = none-queued n m x y
+
+row-wide : (n m x : ℕ) → x < n → length (slice_index_or (replicate n (replicate m none)) x []) ≡ m
+row-wide zero m x l = absurd (omega arith)
+row-wide (suc n) m zero l = length-replicate m none
+row-wide (suc n) m (suc x) l = row-wide n m x (omega arith)
+
+pub tended-new : (u : List Atom) (rules : List RuleInst) (g : Engine) (n many : ℕ) → IsFine u g.workings → n ≡ length u → length rules ≡ many → g.fired.items ≡ replicate many false → g.queues.rows.items ≡ replicate n (replicate n []) → Tended u rules g
+tended-new u rules g n many f en em sf sq = record {
+  fine = f;
+  many = ap length sf ∙ length-replicate many false ∙ sym em;
+  queues = record {
+    long = rw sq (length-replicate n (replicate n []) ∙ en);
+    wide = λ x l. rw sq (row-wide n n x (omega arith) ∙ en);
+  };
+  done = λ k h. absurd (let no = none-fired many k in let yes = rw sf at h in cc);
+  waiting = λ x y e c.
+      let bare : queue g.queues.rows.items x y ≡ [] = rw sq (none-queued n n x y) in
+      let gone : Contains {X = Waiting} [] e = subst (λ (l : List Waiting). Contains l e) bare c in
+      absurd (let l = gone.1 in omega arith);
+}
+
+-- a constraint is taken in before anything else
+pub tended-grown : (u : List Atom) (rules : List RuleInst) (old new : Engine) → AreRulesOver u rules → Tended u rules old → IsFine u new.workings → IsLower (length u) (bounds old.workings) (bounds new.workings) → new.fired ≡ old.fired → new.queues ≡ old.queues → Tended u rules new
+tended-grown u rules old new over h f l sf sq = record {
+  fine = f;
+  many = rw sf h.many;
+  queues = rw sq h.queues;
+  done = λ k g. results-lower u rules old.workings new.workings k over l (h.done k (rw sf at g));
+  waiting = λ x y e c. waiting-lower u rules old.workings new.workings e over l (h.waiting x y e (rw sq at c));
+}
+
+pub covered-grown : (u : List Atom) (rules : List RuleInst) (old new : Engine) → Moves (length u) old.workings new.workings → new.fired ≡ old.fired → new.queues ≡ old.queues → AllCovered u rules old (edges old) → AllCovered u rules new (edges old)
+covered-grown u rules old new v sf sq h t k l = covered-from u rules new (edges old) k here t
+  where
+    here : Covered u new (edges old) (edges old) 0 0 k
+    here = elim (h (edges old) k l) [
+      | inl a ↦ inl (rw sf a)
+      | inr b ↦ inr (b.0, record { rule = b.1.rule; x = b.1.x; y = b.1.y; there = rw sq b.1.there }, looks-moves (length u) old.workings new.workings (edges old) (edges old) 0 0 b.0 v b.1.x b.1.y (omega arith) b.2)
     ]
 
-pub below-all : (now new : List Waiting) (n : ℕ) → new ≡ now ++ record { rule = n; premise = 0; seen = None } ∷ [] → ((x : Waiting) → Contains now x → (x.rule < n) × (x.premise ≡ 0) × (x.seen ≡ None)) → (x : Waiting) → Contains new x → (x.rule < n + 1) × (x.premise ≡ 0) × (x.seen ≡ None)
-below-all now new n e h x c =
-    elim (Contains-push_cases now record { rule = n; premise = 0; seen = None } x (rw e at c)) [
-      | inl q ↦ (let b = h x q in (let l = b.0 in omega arith, b.1, b.2))
-      | inr q ↦ subst (λ (x : Waiting). (x.rule < n + 1) × (x.premise ≡ 0) × (x.seen ≡ None)) q (omega arith, refl, refl)
-    ]
+-- equal workings and queues
+module _ (u : List Atom) (rules : List RuleInst) (g f : Engine) (rows : f.workings.table.rows.items ≡ g.workings.table.rows.items) (ms : f.workings.table.marks.items ≡ g.workings.table.marks.items) (es : f.workings.table.edges.items ≡ g.workings.table.edges.items) (sf : f.fired.items ≡ g.fired.items) (sq : f.queues.rows.items ≡ g.queues.rows.items) where
+  pub fine-copy : IsFine u g.workings → IsFine u f.workings
+  fine-copy h = record { long = rw rows h.long; traced = rw (rows, ms, es) h.traced }
+
+  waiting_copy : (e : Waiting) → IsWaiting u rules g.workings e → IsWaiting u rules f.workings e
+  waiting_copy e w = record {
+    holding = record { within = w.holding.within; held = rw rows w.holding.held };
+    x = w.x;
+    y = w.y;
+    watched = w.watched;
+  }
+
+  pub tending-copy : IsTending u rules g → IsTending u rules f
+  tending-copy h = record {
+    tended = record {
+      fine = fine-copy h.tended.fine;
+      many = rw sf h.tended.many;
+      queues = rw sq h.tended.queues;
+      done = λ k d. rw rows (h.tended.done k (rw sf at d));
+      waiting = λ x y e c. waiting_copy e (h.tended.waiting x y e (rw sq at c));
+    };
+    covered = λ t k l. elim (h.covered t k l) [
+      | inl a ↦ inl (rw sf a)
+      | inr b ↦ inr (b.0, record { rule = b.1.rule; x = b.1.x; y = b.1.y; there = rw sq b.1.there }, rw (rows, ms, es) b.2)
+    ];
+  }
+
+-- Loops.
+
+module _ (u : List Atom) (rules : List RuleInst) (first old new : Engine) (longer : edges first ≤ edges old) (o : Onwards u rules old new) where
+  pub covered-more : (i : ℕ) → IsCovered u new i → ((k : ℕ) → k < i → (s t cx cy : ℕ) → t ≤ edges first → Covered u old s t cx cy k) → (k : ℕ) → k < i + 1 → (s t cx cy : ℕ) → t ≤ edges first → Covered u new s t cx cy k
+  covered-more i c h k l s t cx cy le = elim (cases_eq k i) [
+    | inl e ↦ subst (λ (k : ℕ). Covered u new s t cx cy k) (sym e) (c s t cx cy)
+    | inr n ↦ o.covers s t cx cy k (omega arith) (h k (omega arith) s t cx cy le)
+  ]
+
+  pub seen-more : (list : List Waiting) (i : ℕ) (d : Waiting) → i < length list → IsCovered u new (slice_index_or list i d).rule → ((e : Waiting) → Contains (take i list) e → (s t cx cy : ℕ) → t ≤ edges first → Covered u old s t cx cy e.rule) → (e : Waiting) → Contains (take (i + 1) list) e → (s t cx cy : ℕ) → t ≤ edges first → Covered u new s t cx cy e.rule
+  seen-more list i d lt c h e k s t cx cy le = elim (Contains-push_cases (take i list) (slice_index_or list i d) e (subst (λ (l : List Waiting). Contains l e) (take_more list i d lt) k)) [
+    | inl q ↦ o.covers s t cx cy e.rule (omega arith) (h e q s t cx cy le)
+    | inr q ↦ subst (λ (e : Waiting). Covered u new s t cx cy e.rule) q (c s t cx cy)
+  ]
+
+pub seen-all : (u : List Atom) (first g : Engine) (list : List Waiting) (i : ℕ) → i ≡ length list → ((e : Waiting) → Contains (take i list) e → (s t cx cy : ℕ) → t ≤ edges first → Covered u g s t cx cy e.rule) → (e : Waiting) → Contains list e → (s t cx cy : ℕ) → t ≤ edges first → Covered u g s t cx cy e.rule
+seen-all u first g list i q h e k = h e (subst (λ (l : List Waiting). Contains l e) (sym (ap (λ (n : ℕ). take n list) q ∙ take-length list)) k)

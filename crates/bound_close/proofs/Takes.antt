@@ -1,44 +1,23 @@
 -- A base and the results of an instance, taken in one after another.
-use Rattle.std.proofs.Common.{ap, take, ℕ, ◌<◌, ◌+◌, ◌≡◌, List, ◌++◌, length, slice_index_or, slice_get, subst, sym, ◌∙◌, Some, true}
+use Rattle.std.proofs.Common.{ap, take, ℕ, ◌<◌, ◌+◌, ◌≡◌, List, ◌++◌, length, slice_index_or, slice_get, subst, ◌∙◌, Some, true}
 use Rattle.std.proofs.Math.Seq.{take-length}
 use Rattle.loop_core.specs.declared.nest.Atom.{Atom}
 use Rattle.uf_constraints.specs.declared.system.Diff.{Diff}
 use Rattle.index_props.specs.declared.rule.RuleInst.{RuleInst}
-use Rattle.index_props.specs.declared.certificate.Step.TheVariants.{Base, Rule}
+use Rattle.index_props.specs.declared.certificate.Step.TheVariants.{Rule}
 use Rattle.index_props.specs.Derivable.{Derivable}
-use Rattle.index_props.specs.Derivable.Derivable.{given, fired}
+use Rattle.index_props.specs.Derivable.Derivable.{fired}
 use Rattle.index_props.specs.Certificate.{conclusion, named}
 use Rattle.bound_close.specs.declared.workings.Workings.{Workings}
 use Rattle.bound_ways.specs.Exact.{Holds}
 use Rattle.bound_ways.specs.Log.{Naming}
 use Rattle.bound_ways.specs.Over.{AreOver, IsRuleOver}
-use Rattle.bound_close.specs.Passes.{Taken, Ready, Applied, Forward, Stopped}
-use Rattle.bound_close.specs.Workings.{bounds, IsFine, Kept, Halted, Grown, Clashes, Refuted}
+use Rattle.bound_close.specs.Passes.{Ready, Applied, Forward, Stopped}
+use Rattle.bound_close.specs.Workings.{bounds, IsFine, Kept, Grown, Clashes, Refuted}
 use Rattle.bound_ways.proofs.Emits.{edges-left}
 use Rattle.bound_ways.proofs.Bounding.{lower-refl, lower-trans, Holds-lower, got, contains-got, over-take, Holds-more, premise-derivable}
 use Rattle.bound_ways.proofs.Named.{named-left}
-
--- a base
-module _ (u : List Atom) (base : List Diff) (over : AreOver u base) (old mid new : Workings) (i : ℕ) (d : Diff) (lt : i < length base) (is : d ≡ slice_index_or base i d) where
-  kept-next : (rules : List RuleInst) → Kept u base rules mid → Grown u mid new d (Base i) → Kept u base rules new
-  kept-next rules k g =
-      let r = g.longer base rules k.logged.0 k.logged.1 k.logged.2 (got base i d lt is) in
-      record { sound = g.sound base rules k.sound (given d (i, lt, sym is)); logged = (k.logged.0 ++ r.0, r.1, r.2) }
-
-  pub base-next : Taken u base (take i base) old mid → Grown u mid new d (Base i) → Taken u base (take (i + 1) base) old new
-  base-next t g = record {
-    fine = g.fine;
-    holds = Holds-more u (bounds new) base i d lt (Holds-lower u (bounds mid) (bounds new) (take i base) g.lower (over-take u base i over) t.holds) g.holds is;
-    onward = λ rules. record {
-      lower = lower-trans (length u) (bounds old) (bounds mid) (bounds new) (t.onward rules).lower g.lower;
-      kept = λ k. kept-next rules ((t.onward rules).kept k) g;
-    };
-  }
-
-  pub base-stop : Taken u base (take i base) old mid → Clashes u mid new d (Base i) → (rules : List RuleInst) → Halted u base rules old new
-  base-stop t c rules k =
-      let m = (t.onward rules).kept k in
-      c base rules m.logged.0 m.sound (given d (i, lt, sym is)) m.logged.1 m.logged.2 (got base i d lt is)
+use Rattle.bound_close.proofs.Grow.{moves-refl, moves-trans}
 
 -- the results of an instance
 module _ (u : List Atom) (rules : List RuleInst) (rule : ℕ) (r : RuleInst) (places : List ℕ) (rs : List Diff) (same : rs ≡ r.results) (over : AreOver u rs) (at : slice_get rules rule ≡ Some r) (old mid new : Workings) (i : ℕ) (d : Diff) (lt : i < length rs) (is : d ≡ slice_index_or rs i d) where
@@ -68,6 +47,7 @@ module _ (u : List Atom) (rules : List RuleInst) (rule : ℕ) (r : RuleInst) (pl
     fine = g.fine;
     lower = lower-trans (length u) (bounds old) (bounds mid) (bounds new) a.lower g.lower;
     holds = Holds-more u (bounds new) rs i d lt (Holds-lower u (bounds mid) (bounds new) (take i rs) g.lower (over-take u rs i over) a.holds) g.holds is;
+    moves = moves-trans (length u) old mid new a.moves g.moves;
     ready = λ base q. ready-next base (a.ready base q) g;
   }
 
@@ -96,6 +76,7 @@ module _ (u : List Atom) (rules : List RuleInst) (r : RuleInst) (places : List �
   pub fire-forward : Applied u rules r places r.results mid new → Forward u rules old new
   fire-forward a = record {
     fine = a.fine;
+    moves = record { longer = rw table at a.moves.longer; each = rw table at a.moves.each };
     onward = λ base. record {
       lower = rw table at a.lower;
       kept = λ k. let q = a.ready base (ready-first base k) in record { sound = q.sound; logged = (q.ds, q.log, q.edges) };
@@ -106,11 +87,12 @@ module _ (u : List Atom) (rules : List RuleInst) (r : RuleInst) (places : List �
   fire-stop f base k = f base (ready-first base k)
 
 pub forward-same : (u : List Atom) (rules : List RuleInst) (w : Workings) → IsFine u w → Forward u rules w w
-forward-same u rules w f = record { fine = f; onward = λ base. record { lower = lower-refl (length u) (bounds w); kept = λ k. k } }
+forward-same u rules w f = record { fine = f; moves = moves-refl (length u) w; onward = λ base. record { lower = lower-refl (length u) (bounds w); kept = λ k. k } }
 
 pub forward-trans : (u : List Atom) (rules : List RuleInst) (old mid new : Workings) → Forward u rules old mid → Forward u rules mid new → Forward u rules old new
 forward-trans u rules old mid new f g = record {
   fine = g.fine;
+  moves = moves-trans (length u) old mid new f.moves g.moves;
   onward = λ base. record {
     lower = lower-trans (length u) (bounds old) (bounds mid) (bounds new) (f.onward base).lower (g.onward base).lower;
     kept = λ k. (g.onward base).kept ((f.onward base).kept k);

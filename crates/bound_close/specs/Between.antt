@@ -14,8 +14,8 @@ pub record IsBetween (k : Found) (a b : Atom) (p : Between) : Type 0 where
   pub y : p.y ≡ place_in k.atoms b
   pub x_in : place_in k.atoms a < length k.atoms
   pub y_in : place_in k.atoms b < length k.atoms
-  pub bound : p.bound ≡ bounds k.workings (place_in k.atoms a) (place_in k.atoms b)
+  pub bound : p.bound ≡ bounds k.engine.workings (place_in k.atoms a) (place_in k.atoms b)
   pub known : p.bound <ℤ far
 
 abbrev pub NotBetween : Found → Atom → Atom → Type 0
-NotBetween k a b = k.refuted ≡ false → place_in k.atoms a < length k.atoms → place_in k.atoms b < length k.atoms → bounds k.workings (place_in k.atoms a) (place_in k.atoms b) <ℤ far → ⊥
+NotBetween k a b = k.refuted ≡ false → place_in k.atoms a < length k.atoms → place_in k.atoms b < length k.atoms → bounds k.engine.workings (place_in k.atoms a) (place_in k.atoms b) <ℤ far → ⊥

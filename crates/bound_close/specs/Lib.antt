@@ -1,6 +1,7 @@
 pub mod Between
 pub mod Closure
 pub mod Passes
+pub mod Waits
 pub mod Workings
 pub use Rattle.bound_ways.specs.Exact
 pub use Rattle.bound_ways.specs.Log
@@ -8,4 +9,5 @@ pub use Rattle.bound_ways.specs.Over
 pub use Rattle.bound_ways.specs.Places
 pub use Rattle.bound_plain.specs.Plain
 pub use Rattle.bound_table.specs.Marks
+pub use Rattle.bound_table.specs.Queues
 pub use Rattle.bound_table.specs.Rows

@@ -1,5 +1,5 @@
--- How a table and its steps take in a base, an instance, and a list of instances that wait.
-use Rattle.std.specs.Prelude.{ℕ, ℤ, true, ◌≡◌, ◌<◌, ◌≤◌, ◌⊎◌, ◌++◌, ◌∷◌, List, [], length, take, slice_get, slice_index_or, Some}
+-- How a table and its steps take in the results of an instance.
+use Rattle.std.specs.Prelude.{ℕ, ℤ, true, ◌≡◌, List, length, slice_get, slice_index_or, Some}
 use Rattle.std.specs.Int.Signed.{◌<ℤ◌}
 use Rattle.std.specs.List.{Contains}
 use Rattle.loop_core.specs.declared.nest.Atom.{Atom}
@@ -8,18 +8,11 @@ use Rattle.index_props.specs.declared.rule.RuleInst.{RuleInst}
 use Rattle.index_props.specs.Derivable.{Derivable}
 use Rattle.index_props.specs.Certificate.{named}
 use Rattle.bound_table.specs.declared.between.Between.{Between}
-use Rattle.bound_table.specs.declared.waiting.Waiting.{Waiting}
 use Rattle.bound_close.specs.declared.workings.Workings.{Workings}
 use Rattle.bound_ways.specs.Exact.{Holds, Fails, IsLower, IsSound, Settled}
 use Rattle.bound_ways.specs.Log.{IsLog, EdgesIn}
 use Rattle.bound_ways.specs.Places.{place_in}
-use Rattle.bound_close.specs.Workings.{bounds, IsFine, Onward, Halted}
-
--- these constraints of the base were taken in
-pub record Taken (u : List Atom) (base ds : List Diff) (old new : Workings) : Type 0 where
-  pub fine : IsFine u new
-  pub holds : Holds u (bounds new) ds
-  pub onward : (rules : List RuleInst) → Onward u base rules old new
+use Rattle.bound_close.specs.Workings.{bounds, IsFine, Moves, Onward, Halted}
 
 -- the premises of an instance are derivable, and the steps at the places give them
 pub record Ready (u : List Atom) (base : List Diff) (rules : List RuleInst) (w : Workings) (r : RuleInst) (places : List ℕ) : Type 0 where
@@ -35,11 +28,13 @@ pub record Applied (u : List Atom) (rules : List RuleInst) (r : RuleInst) (place
   pub fine : IsFine u new
   pub lower : IsLower (length u) (bounds old) (bounds new)
   pub holds : Holds u (bounds new) ds
+  pub moves : Moves (length u) old new
   pub ready : (base : List Diff) → Ready u base rules old r places → Ready u base rules new r places
 
 -- what was kept for the instances and any base is kept, and no bound is higher
 pub record Forward (u : List Atom) (rules : List RuleInst) (old new : Workings) : Type 0 where
   pub fine : IsFine u new
+  pub moves : Moves (length u) old new
   pub onward : (base : List Diff) → Onward u base rules old new
 
 abbrev pub Stopped : List Atom → List RuleInst → Workings → Workings → Type 0
@@ -57,42 +52,11 @@ pub record IsWatched (u : List Atom) (ds : List Diff) (i : ℕ) (p : Between) : 
 pub record Watches (u : List Atom) (rules : List RuleInst) (k : ℕ) (p : Between) : Type 0 where
   pub fails : (T : ℕ → ℕ → ℤ) → p.bound <ℤ T p.x p.y → (r : RuleInst) → slice_get rules k ≡ Some r → Fails u T r.premises
 
--- the premises of the instance before that one hold, and its open premise is watched
-pub record IsWaiting (u : List Atom) (rules : List RuleInst) (w : Workings) (x : Waiting) : Type 0 where
-  pub within : x.rule < length rules
-  pub watched : (p : Between) → x.seen ≡ Some p → Watches u rules x.rule p
-  pub held : (r : RuleInst) → slice_get rules x.rule ≡ Some r → (x.premise ≤ length r.premises) × Holds u (bounds w) (take x.premise r.premises)
-
 abbrev pub ResultsHold : List Atom → List RuleInst → Workings → ℕ → Type 0
 ResultsHold u rules w k = (r : RuleInst) → slice_get rules k ≡ Some r → Holds u (bounds w) r.results
 
 abbrev pub PremiseFails : List Atom → List RuleInst → Workings → ℕ → Type 0
 PremiseFails u rules w k = (r : RuleInst) → slice_get rules k ≡ Some r → Fails u (bounds w) r.premises
-
--- an instance goes on waiting, and nothing is changed
-pub record Stays (u : List Atom) (rules : List RuleInst) (old new : Workings) (k : ℕ) (before after : List Waiting) : Type 0 where
-  pub same : new ≡ old
-  pub next : Waiting
-  pub rule : next.rule ≡ k
-  pub waits : IsWaiting u rules new next
-  pub fails : PremiseFails u rules new k
-  pub list : after ≡ before ++ next ∷ []
-
--- an instance has fired
-pub record Fires (u : List Atom) (rules : List RuleInst) (new : Workings) (k : ℕ) (before after : List Waiting) : Type 0 where
-  pub holds : ResultsHold u rules new k
-  pub list : after ≡ before
-
-abbrev pub Waits : List Waiting → ℕ → Type 0
-Waits xs k = (x : Waiting) × Contains xs x × (x.rule ≡ k)
-
--- a pass over instances that wait: those whose premises held have fired, and the others still wait
-pub record Passed (u : List Atom) (rules : List RuleInst) (old new : Workings) (before after : List Waiting) : Type 0 where
-  pub forward : Forward u rules old new
-  pub fired : (k : ℕ) → Waits before k → Waits after k ⊎ ResultsHold u rules new k
-  pub waits : (x : Waiting) → Contains after x → IsWaiting u rules new x
-  pub short : length after ≤ length before
-  pub quiet : length after ≡ length before → (k : ℕ) → Waits before k → PremiseFails u rules new k
 
 abbrev pub AllSettled : List Atom → List RuleInst → Workings → Type 0
 AllSettled u rules w = (r : RuleInst) → Contains rules r → Settled u (bounds w) r

@@ -1,5 +1,5 @@
 -- How a table and the steps beside it grow.
-use Rattle.std.specs.Prelude.{ℕ, ℤ, ◌≤ℤ◌, ◌≡◌, ◌++◌, List, length, Some}
+use Rattle.std.specs.Prelude.{ℕ, ℤ, ◌≤ℤ◌, ◌≡◌, ◌<◌, ◌≤◌, ◌⊎◌, ◌++◌, List, length, Some}
 use Rattle.loop_core.specs.declared.nest.Atom.{Atom}
 use Rattle.uf_constraints.specs.declared.system.Diff.{Diff}
 use Rattle.index_props.specs.declared.rule.RuleInst.{RuleInst}
@@ -9,7 +9,7 @@ use Rattle.index_props.specs.Certificate.{conclusion}
 use Rattle.bound_close.specs.declared.workings.Workings.{Workings}
 use Rattle.bound_ways.specs.Exact.{IsSound, IsLower, bound_of}
 use Rattle.bound_ways.specs.Log.{IsLog, EdgesIn, Logged, Refutes}
-use Rattle.bound_table.specs.Marks.{IsTraced}
+use Rattle.bound_table.specs.Marks.{IsTraced, mark_at}
 use Rattle.bound_table.specs.Rows.{entry}
 
 abbrev pub bounds : Workings → ℕ → ℕ → ℤ
@@ -30,10 +30,16 @@ pub record Refuted (u : List Atom) (base : List Diff) (rules : List RuleInst) (s
   pub contradictory : IsContradictory u base rules
   pub shown : Refutes u base rules steps
 
+-- each bound that was lowered is marked by an edge that was added
+pub record Moves (m : ℕ) (old new : Workings) : Type 0 where
+  pub longer : length old.table.edges.items ≤ length new.table.edges.items
+  pub each : (x y : ℕ) → x < m → y < m → ((bounds new x y ≡ bounds old x y) × (mark_at new.table.marks.items x y ≡ mark_at old.table.marks.items x y)) ⊎ (length old.table.edges.items ≤ mark_at new.table.marks.items x y)
+
 -- a constraint that a step gives was taken in
 pub record Grown (u : List Atom) (old new : Workings) (d : Diff) (s : Step) : Type 0 where
   pub fine : IsFine u new
   pub lower : IsLower (length u) (bounds old) (bounds new)
+  pub moves : Moves (length u) old new
   pub holds : bound_of u (bounds new) d ≤ℤ d.c
   pub sound : (base : List Diff) (rules : List RuleInst) → IsSound u base rules (bounds old) → Derivable u base rules d.a d.b d.c → IsSound u base rules (bounds new)
   pub longer : (base : List Diff) (rules : List RuleInst) (ds : List Diff) → IsLog u base rules old.steps ds → EdgesIn u ds old.table.edges.items → conclusion u base rules ds s ≡ Some d → (rest : List Diff) × IsLog u base rules new.steps (ds ++ rest) × EdgesIn u (ds ++ rest) new.table.edges.items

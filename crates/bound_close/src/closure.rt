@@ -1,10 +1,10 @@
 // The closure of a base and a list of instances.
-ghost use Rattle.std.specs.Prelude.{◌≡◌, ◌<◌, ◌↔◌, IsTrue, ℤ, List, length, true, false, IfOk, MatchOption};
+ghost use Rattle.std.specs.Prelude.{◌≡◌, ◌<◌, ◌↔◌, IsTrue, ℤ, List, length, true, false, IfOk, OnOk, OnErr, MatchOption};
 ghost use Rattle.std.specs.Int.Signed.{◌<ℤ◌};
-ghost use Rattle.bound_ways.specs.Over.{AreOver, AreRulesOver};
-ghost use Rattle.bound_close.specs.Closure.{IsClosure, IsBound, Shows, ShowsContradiction, Closed};
+ghost use Rattle.bound_ways.specs.Over.{IsOver, AreOver, AreRulesOver};
+ghost use Rattle.bound_close.specs.Closure.{Found, IsClosure, IsClosureOf, IsGrown, IsAdded, IsBound, Shows, ShowsContradiction, Closed};
 
-use crate::workings::Workings;
+use crate::engine::Engine;
 use bound_table::between::Between;
 use bound_table::row::FAR;
 use bound_ways::copy::{copy_steps, copy_universe};
@@ -24,7 +24,8 @@ use wave_base::types::Memory;
 pub struct Closure {
     universe: Universe,
     places: Places,
-    workings: Workings,
+    engine: Engine,
+    given: usize,
     refuted: bool,
 }
 
@@ -40,16 +41,17 @@ impl Model for Closure {
 
     ghost coded = { Prim.hlevel (codes, an_atom.the_row.coded, a_step.the_row.coded) };
 
-    ghost view = { λ k. record { atoms = k.places; workings = k.workings; refuted = k.refuted } };
+    ghost view = { λ k. record { atoms = k.places; engine = k.engine; given = k.given; refuted = k.refuted } };
 
-    ghost invariant = { λ k. (k.refuted ≡ false → IsFine k.places k.workings) × (k.universe.atoms ≡ k.places) };
+    ghost invariant = { λ k. (k.refuted ≡ false → IsFine k.places k.engine.workings) × (k.universe.atoms ≡ k.places) };
 }
 
 /// The closure of a base and a list of instances over a universe.
 ///
-/// It keeps the least bound that is derivable for each pair of atoms, and the steps that derive it.
-/// The time is at most that of one pass over the table for each constraint that tightens it, and of
-/// one visit of each waiting instance in each pass in which one fires.
+/// It keeps the least bound that is derivable for each pair of atoms, and the steps that derive it. It
+/// is the closure of an empty base to which the base is added in order. The time is at most that of one
+/// pass over the table for each constraint that tightens it and each pass in which an instance fires,
+/// and of one look at an instance for each bound of a premise of its own that is lowered.
 pub fn close(
     alloc: Global,
     u: &Universe,
@@ -60,15 +62,18 @@ pub fn close(
     requires rules { AreRulesOver u.now.atoms rules.now }
     ensures atoms { IfOk result (λ k. k.atoms ≡ u.now.atoms) }
     ensures closure { IfOk result (λ k. IsClosure k base.now rules.now) }
+    ensures grown { IfOk result (λ k. (j : Found) → IsGrown rules.now j base.now → j.atoms ≡ k.atoms
+        → IsClosure j base.now rules.now × (j.refuted ≡ k.refuted)) }
 {
     let universe = copy_universe(alloc, u)?;
     let places = Places::new(alloc, universe.atoms.as_slice())?;
-    let mut workings = Workings::new(alloc, &places)?;
-    let fine = workings.run(alloc, &places, base, rules)?;
+    let mut engine = Engine::new(alloc, &places, rules.len())?;
+    let fine = engine.run(alloc, &places, base, rules)?;
     Ok(Closure {
         universe,
         places,
-        workings,
+        engine,
+        given: base.len(),
         refuted: !fine,
     })
 }
@@ -81,6 +86,42 @@ impl Closure {
     ghost use Rattle.bound_table.specs.Rows.{far};
     ghost use Rattle.bound_close.specs.Workings.{bounds};
     ghost use Rattle.bound_close.specs.Between.{IsBetween, NotBetween};
+
+    /// Puts a constraint at the end of the base. The universe and the instances are those of the closure,
+    /// and the constraint is over its atoms, with a right side from -2^23 to 2^23.
+    ///
+    /// Out of memory, the closure is as before. Only instances of which a bound of a premise is lowered
+    /// are looked at; the table, the steps and the queues are copied once.
+    pub fn add(
+        &mut self,
+        alloc: Global,
+        u: &Universe,
+        rules: &[RuleInst],
+        d: &Diff,
+    ) -> Result<(), Memory>
+        requires universe { u.now.atoms ≡ self.old.atoms }
+        requires closure { IsClosureOf self.old rules.now }
+        requires rules { AreRulesOver self.old.atoms rules.now }
+        requires over { IsOver self.old.atoms d.now }
+        ensures added { OnOk result (IsAdded rules.now self.old d.now self.new) }
+        ensures kept { OnErr result (self.new ≡ self.old) }
+    {
+        // The closure has the universe already.
+        let _ = u;
+        let Some(given) = self.given.checked_add(1) else {
+            return Err(Memory);
+        };
+        if self.refuted {
+            self.given = given;
+            return Ok(());
+        }
+        let mut engine = self.engine.copy(alloc)?;
+        let fine = engine.grow(alloc, &self.places, rules, d, self.given)?;
+        self.engine = engine;
+        self.given = given;
+        self.refuted = !fine;
+        Ok(())
+    }
 
     /// The universe that the closure is over. It takes no memory.
     pub fn universe(&self) -> &Universe
@@ -113,7 +154,7 @@ impl Closure {
         if y >= atoms.len() {
             return None;
         }
-        let bound = self.workings.table.get(x, y);
+        let bound = self.engine.workings.table.get(x, y);
         if bound >= FAR {
             return None;
         }
@@ -148,11 +189,11 @@ impl Closure {
         if between.is_above(c) {
             return Ok(None);
         }
-        let mut steps = copy_steps(alloc, self.workings.steps.as_slice())?;
+        let mut steps = copy_steps(alloc, self.engine.workings.steps.as_slice())?;
         let way = emit(
             alloc,
             &self.places,
-            &self.workings.table,
+            &self.engine.workings.table,
             between.x,
             between.y,
             &mut steps,
@@ -172,7 +213,7 @@ impl Closure {
         if !self.refuted {
             return Ok(None);
         }
-        let steps = copy_steps(alloc, self.workings.steps.as_slice())?;
+        let steps = copy_steps(alloc, self.engine.workings.steps.as_slice())?;
         Ok(Some(Cert { steps }))
     }
 }

@@ -2,6 +2,8 @@
 #![tactic(auto)]
 
 pub mod closure;
+mod engine;
+pub mod laws;
 pub mod order;
 mod passes;
 mod run;

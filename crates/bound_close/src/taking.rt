@@ -1,4 +1,4 @@
-// How the workings take in a base and the results of an instance.
+// How the workings take in the results of an instance.
 ghost use Rattle.std.specs.Int.Signed.{◌<ℤ◌};
 ghost use Rattle.bound_close.specs.Passes.{IsWatched};
 ghost use Rattle.bound_ways.specs.Places.{place_in};
@@ -54,25 +54,10 @@ fn seen_at(atoms: &Places, diffs: &[Diff], at: usize) -> Between
 impl Workings {
     ghost use Rattle.uf_constraints.specs.declared.system.Diff.{Diff};
     ghost use Rattle.index_props.specs.declared.rule.RuleInst.{RuleInst};
-    ghost use Rattle.bound_ways.specs.Exact.{Holds, Fails};
+    ghost use Rattle.bound_ways.specs.Exact.{bound_of, Holds};
     ghost use Rattle.bound_ways.specs.Over.{AreOver, AreRulesOver};
-    ghost use Rattle.bound_close.specs.Passes.{Taken, Applied, Ready, Forward, Stopped, ResultsHold};
+    ghost use Rattle.bound_close.specs.Passes.{Applied, Ready, Forward, Stopped, ResultsHold};
     ghost use Rattle.bound_close.specs.Workings.{bounds, IsFine, Halted, Refuted};
-
-    /// Takes in a base; false where it is contradictory, and then the last step gives `a - a <= -1`.
-    pub fn add_base(&mut self, alloc: Global, atoms: &Places, base: &[Diff]) -> Result<bool, Memory>
-        requires fine { IsFine atoms.now self.old }
-        requires over { AreOver atoms.now base.now }
-        ensures taken { IfOk result (λ fine. fine ≡ true → Taken atoms.now base.now base.now self.old self.new) }
-        ensures halted { IfOk result (λ fine. fine ≡ false → (rules : List RuleInst) → Halted atoms.now base.now rules self.old self.new) }
-    {
-        for at in 0..base.len() {
-            if !self.add_given(alloc, atoms, &base[at], at)? {
-                return Ok(false);
-            }
-        }
-        Ok(true)
-    }
 
     /// The number of the first premise from a place on that doesn't hold, and that of all premises
     /// where each holds. It takes no memory.
@@ -83,7 +68,7 @@ impl Workings {
         requires held { Holds atoms.now (bounds self.now) (take from premises.now) }
         ensures within { result ≤ length premises.now }
         ensures held { Holds atoms.now (bounds self.now) (take result premises.now) }
-        ensures open { result < length premises.now → Fails atoms.now (bounds self.now) premises.now }
+        ensures open { (d : Diff) → slice_get premises.now result ≡ Some d → d.c <ℤ bound_of atoms.now (bounds self.now) d }
     {
         for at in from..premises.len() {
             if !self.knows(atoms, &premises[at]) {
@@ -102,9 +87,9 @@ impl Workings {
         requires held { Holds atoms.now (bounds self.now) (take from premises.now) }
         ensures within { result.at ≤ length premises.now }
         ensures held { Holds atoms.now (bounds self.now) (take result.held premises.now) }
-        ensures fails { result.at < length premises.now → Fails atoms.now (bounds self.now) premises.now }
         ensures few { result.at < length premises.now → result.held < length premises.now }
         ensures seen { result.at < length premises.now → IsWatched atoms.now premises.now result.at result.seen }
+        ensures low { result.at < length premises.now → result.seen.bound <ℤ bounds self.now result.seen.x result.seen.y }
         ensures all { result.at ≡ length premises.now → result.held ≡ length premises.now }
     {
         if from < premises.len() {

@@ -4,6 +4,7 @@ ghost use Rattle.std.specs.Int.Signed.{◌<ℤ◌};
 
 use bound_table::edge::Edge;
 use bound_table::table::Table;
+use bound_ways::copy::copy_steps;
 use bound_ways::places::Places;
 use bound_ways::push::push_step;
 use bound_ways::way::refute;
@@ -38,6 +39,18 @@ impl Workings {
     {
         let table = Table::new(alloc, atoms.len())?;
         let steps = Items::new(alloc);
+        Ok(Workings { table, steps })
+    }
+
+    /// Equal workings.
+    pub fn copy(&self, alloc: Global) -> Result<Workings, Memory>
+        ensures rows { IfOk result (λ w. w.table.rows.items ≡ self.now.table.rows.items) }
+        ensures marks { IfOk result (λ w. w.table.marks.items ≡ self.now.table.marks.items) }
+        ensures edges { IfOk result (λ w. w.table.edges.items ≡ self.now.table.edges.items) }
+        ensures steps { IfOk result (λ w. w.steps ≡ self.now.steps) }
+    {
+        let table = self.table.copy(alloc)?;
+        let steps = copy_steps(alloc, self.steps.as_slice())?;
         Ok(Workings { table, steps })
     }
 

@@ -21,7 +21,7 @@ use Rattle.bound_ways.proofs.Exactly.{exact, unit-sound}
 use Rattle.bound_plain.proofs.Grids.{lower-one}
 use Rattle.bound_ways.proofs.Bounding.{got, contains-got, premise-derivable}
 
-fewer_set : (xs : List Bool) (i : ℕ) → i < length xs → slice_index_or xs i false ≡ false → unfired (slice_set xs i true) < unfired xs
+pub fewer_set : (xs : List Bool) (i : ℕ) → i < length xs → slice_index_or xs i false ≡ false → unfired (slice_set xs i true) < unfired xs
 fewer_set xs i l h =
     let s : unfired (slice_set xs i true) + cond (slice_index_or xs i false) 0 1 ≡ unfired xs + 0 = sum_by-set (λ f. cond f 0 1) xs i true false l in
     let t : unfired (slice_set xs i true) + 1 ≡ unfired xs + 0 = rw h at s in

@@ -5,6 +5,7 @@
 pub mod between;
 pub mod edge;
 pub mod plain;
+pub mod queues;
 pub mod row;
 pub mod table;
 pub mod waiting;

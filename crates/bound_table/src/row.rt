@@ -107,6 +107,14 @@ impl Marks {
         Ok(Marks { numbers })
     }
 
+    /// Equal marks.
+    pub fn copy(&self, alloc: Global) -> Result<Marks, Memory>
+        ensures { IfOk result (λ m. m ≡ self.now) }
+    {
+        let numbers = Vec::from_slice(alloc, &self.numbers)?;
+        Ok(Marks { numbers })
+    }
+
     /// The mark at a place, or 0. It takes no memory.
     pub fn get(&self, at: usize) -> usize
         ensures { result ≡ slice_index_or self.now at 0 }

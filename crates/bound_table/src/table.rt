@@ -2,7 +2,7 @@
 ghost use Rattle.std.specs.Prelude.{◌≡◌, ◌<◌, ◌≤◌, ◌++◌, ◌∷◌, ℕ, length, pos, ◌+ℤ◌, ◌≤ℤ◌, slice_index_or, [], IfOk, OnOk, MatchOption, true, false};
 ghost use Rattle.std.specs.Int.Signed.{◌<ℤ◌};
 ghost use Rattle.bound_table.specs.Rows.{far, cell, entry, Range, Within, lowered, IsTable, Adds, unit_bound, AreMarked, IsMarks, AllMarked};
-ghost use Rattle.bound_table.specs.Marks.{GoesBy, IsTraced, no_edge};
+ghost use Rattle.bound_table.specs.Marks.{GoesBy, IsTraced, no_edge, mark_at};
 
 use crate::edge::Edge;
 use crate::row::{FAR, Marks, Row};
@@ -56,6 +56,27 @@ impl Table {
         Some(self.edges[mark])
     }
 
+    /// Whether the bound of a pair was lowered by an edge from that number on. It takes no memory.
+    pub fn was_lowered(&self, x: usize, y: usize, since: usize) -> bool
+        requires { x < length self.now.marks.items }
+        ensures yes { result ≡ true → since ≤ mark_at self.now.marks.items x y }
+        ensures no { result ≡ false → mark_at self.now.marks.items x y < since }
+    {
+        since <= self.marks[x].get(y)
+    }
+
+    /// An equal table.
+    pub fn copy(&self, alloc: Global) -> Result<Table, Memory>
+        ensures rows { IfOk result (λ t. t.rows.items ≡ self.now.rows.items) }
+        ensures marks { IfOk result (λ t. t.marks.items ≡ self.now.marks.items) }
+        ensures edges { IfOk result (λ t. t.edges.items ≡ self.now.edges.items) }
+    {
+        let rows = copy_rows(alloc, &self.rows)?;
+        let marks = copy_marks(alloc, &self.marks)?;
+        let edges = Vec::from_slice(alloc, &self.edges)?;
+        Ok(Table { rows, marks, edges })
+    }
+
     /// Whether `a - b <= c` contradicts what is known. It takes no memory.
     pub fn refuses(&self, a: usize, b: usize, c: i64) -> bool
         requires table { IsTable self.now.rows.items }
@@ -78,6 +99,7 @@ impl Table {
         ensures long { OnOk result (length self.new.rows.items ≡ length self.old.rows.items) }
         ensures adds { OnOk result (Adds (length self.old.rows.items) (entry self.old.rows.items) edge.a edge.b edge.c (entry self.new.rows.items)) }
         ensures edges { OnOk result (self.new.edges.items ≡ self.old.edges.items ++ edge ∷ []) }
+        ensures marked { OnOk result (AllMarked (length self.old.rows.items) (length self.old.edges.items) self.old.rows.items self.new.rows.items self.old.marks.items self.new.marks.items) }
         ensures traced { OnOk result (IsTraced self.new.rows.items self.new.marks.items self.new.edges.items) }
     {
         let from = self.rows[edge.b].copy(alloc)?;
@@ -108,6 +130,26 @@ pub fn new_rows(alloc: Global, size: usize) -> Result<Vec<Row>, Memory>
         rows.push(Row::new(alloc, size, at)?)?;
     }
     Ok(rows)
+}
+
+fn copy_rows(alloc: Global, rows: &[Row]) -> Result<Vec<Row>, Memory>
+    ensures { IfOk result (λ v. v.items ≡ rows.now) }
+{
+    let mut copy = Vec::with_capacity(alloc, rows.len())?;
+    for row in rows {
+        copy.push(row.copy(alloc)?)?;
+    }
+    Ok(copy)
+}
+
+fn copy_marks(alloc: Global, marks: &[Marks]) -> Result<Vec<Marks>, Memory>
+    ensures { IfOk result (λ v. v.items ≡ marks.now) }
+{
+    let mut copy = Vec::with_capacity(alloc, marks.len())?;
+    for row in marks {
+        copy.push(row.copy(alloc)?)?;
+    }
+    Ok(copy)
 }
 
 fn new_marks(alloc: Global, size: usize) -> Result<Vec<Marks>, Memory>

@@ -24,10 +24,10 @@ pub record Known (u : List Atom) (T : ℕ → ℕ → ℤ) (a b : Atom) (c : ℤ
   pub known : T (place_in u a) (place_in u b) <ℤ far
   pub holds : T (place_in u a) (place_in u b) ≤ℤ c
 
-module _ (u : List Atom) (base : List Diff) (rules : List RuleInst) (T : ℕ → ℕ → ℤ) (few : length u ≤ 96) (t : Sums (length u) T) (ob : AreOver u base) (or : AreRulesOver u rules) (hb : Holds u T base) (hr : (r : RuleInst) → Contains rules r → Settled u T r) where
-  known-diff : (d : Diff) → IsOver u d → bound_of u T d ≤ℤ d.c → Known u T d.a d.b d.c
-  known-diff d o h = let s = o.small in record { left = place-in u d.a o.left; right = place-in u d.b o.right; known = omega (arith, ints); holds = h }
+pub known-diff : (u : List Atom) (T : ℕ → ℕ → ℤ) (d : Diff) → IsOver u d → bound_of u T d ≤ℤ d.c → Known u T d.a d.b d.c
+known-diff u T d o h = let s = o.small in record { left = place-in u d.a o.left; right = place-in u d.b o.right; known = omega (arith, ints); holds = h }
 
+module _ (u : List Atom) (base : List Diff) (rules : List RuleInst) (T : ℕ → ℕ → ℤ) (few : length u ≤ 96) (t : Sums (length u) T) (or : AreRulesOver u rules) (hb : (d : Diff) → Contains base d → Known u T d.a d.b d.c) (hr : (r : RuleInst) → Contains rules r → Settled u T r) where
   known-sum : (a b d : Atom) (c e : ℤ) → Known u T a b c → Known u T b d e → Known u T a d (c +ℤ e)
   known-sum a b d c e h i =
       let s = t.below (place_in u a) (place_in u b) (place_in u d) h.left h.right i.right h.known i.known in
@@ -39,22 +39,25 @@ module _ (u : List Atom) (base : List Diff) (rules : List RuleInst) (T : ℕ →
   known-rule : (r : RuleInst) (d : Diff) → Contains rules r → ((p : Diff) → Contains r.premises p → Known u T p.a p.b p.c) → Contains r.results d → Known u T d.a d.b d.c
   known-rule r d i ps j = elim (hr r i) [
     | inl f ↦ (let p = (ps f.0 f.1).holds in let q = f.2 in absurd (omega (arith, ints)))
-    | inr g ↦ known-diff d ((or r i).results d j) (g d j)
+    | inr g ↦ known-diff u T d ((or r i).results d j) (g d j)
   ]
 
   pub known : {a b : Atom} {c : ℤ} → Derivable u base rules a b c → Known u T a b c
-  known (given d h) = known-diff d (ob d h) (hb d h)
+  known (given d h) = hb d h
   known (same a h) = let l = place-in u a h in let e = t.itself (place_in u a) l in record { left = l; right = l; known = omega (arith, ints); holds = omega (arith, ints) }
   known (joined a b d c e h i) = known-sum a b d c e (known h) (known i)
   known (weaker a b c e h i) = let k = known h in let f = k.holds in record { left = k.left; right = k.right; known = k.known; holds = omega (arith, ints) }
   known (fired r d i ps j) = known-rule r d i (λ p k. known (ps p k)) j
 
-  pub exact : IsSound u base rules T → IsExact u base rules T
-  exact s = record {
+  pub exact-of : IsSound u base rules T → IsExact u base rules T
+  exact-of s = record {
     sound = s;
     least = λ a b c d. let k = known d in (k.left, k.right, k.known, k.holds);
     consistent = λ d. let k = known d.1 in let e = t.itself (place_in u d.0) k.left in let f = k.holds in omega (arith, ints);
   }
+
+pub exact : (u : List Atom) (base : List Diff) (rules : List RuleInst) (T : ℕ → ℕ → ℤ) → length u ≤ 96 → Sums (length u) T → AreOver u base → AreRulesOver u rules → Holds u T base → ((r : RuleInst) → Contains rules r → Settled u T r) → IsSound u base rules T → IsExact u base rules T
+exact u base rules T few t ob or hb hr s = exact-of u base rules T few t or (λ d h. known-diff u T d (ob d h) (hb d h)) hr s
 
 -- a table in which nothing is known, and no steps
 pub unit-sound : (u : List Atom) (base : List Diff) (rules : List RuleInst) (T : ℕ → ℕ → ℤ) → ((x y : ℕ) → x < length u → y < length u → T x y ≡ unit_bound x y) → IsSound u base rules T

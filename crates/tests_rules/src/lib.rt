@@ -1,10 +1,8 @@
-//! Tests of constraints, rules, certificates and closures.
+//! Tests of constraints, rules and certificates.
 #![tactic(auto)]
 
 #[cfg(test)]
 mod certificates;
-#[cfg(test)]
-mod closure;
 #[cfg(test)]
 mod constraints;
 #[cfg(test)]

@@ -24,11 +24,11 @@ pub returns : goal.returns
 returns c = λ base rules h.
     let fc : SFits w64 c.args.c = search rules in
     let low : c.in-Some.between.bound ≤ℤ c.args.c = rw (to_z-of_z w64 c.args.c fc) at (c.is_above.ensures.no c.if-is_above.false) in
-    let k : Found = record { atoms = c.self.inside.places; workings = c.self.inside.workings; refuted = c.self.inside.refuted } in
+    let k : Found = record { atoms = c.self.inside.places; engine = c.self.inside.engine; given = c.self.inside.given; refuted = c.self.inside.refuted } in
     let v : c.args.self.now ≡ k = sym c.self.view_is in
     let q : IsBetween k c.args.a.now c.args.b.now c.in-Some.between = subst (λ (k : Found). IsBetween k c.args.a.now c.args.b.now c.in-Some.between) v c.in-Some.ensures in
     let g : IsClosure k base rules = subst (λ (k : Found). IsClosure k base rules) v h in
-    let way : Emitted k.atoms k.workings.table.edges.items k.workings.steps c.emit.new.steps c.in_ok-way.way (diff_at k.atoms (place_in k.atoms c.args.a.now) (place_in k.atoms c.args.b.now) (bounds k.workings (place_in k.atoms c.args.a.now) (place_in k.atoms c.args.b.now))) = rw (c.in_ok-steps.ensures, c.as_slice.ensures, q.x, q.y) at c.in_ok-way.ensures in
+    let way : Emitted k.atoms k.engine.workings.table.edges.items k.engine.workings.steps c.emit.new.steps c.in_ok-way.way (diff_at k.atoms (place_in k.atoms c.args.a.now) (place_in k.atoms c.args.b.now) (bounds k.engine.workings (place_in k.atoms c.args.a.now) (place_in k.atoms c.args.b.now))) = rw (c.in_ok-steps.ensures, c.as_slice.ensures, q.x, q.y) at c.in_ok-way.ensures in
     let last : c.push_weaken.new.steps ≡ c.emit.new.steps ++ Weaken c.in_ok-way.way c.args.c ∷ [] = rw (to_z-of_z w64 c.args.c fc) at c.in_ok-push_weaken.ensures.steps in
     subst (λ (k : Found). Derivable k.atoms base rules c.args.a.now c.args.b.now c.args.c × Shows k.atoms base rules c.push_weaken.new.steps c.args.a.now c.args.b.now c.args.c) (sym v)
     (certified k base rules g c.args.a.now c.args.b.now c.in-Some.between c.args.c c.emit.new.steps c.push_weaken.new.steps c.in_ok-way.way q low way last)

@@ -44,4 +44,4 @@ returns-clause-grown c = λ _.
     let new : Workings = record { table = c.add.new.self; steps = c.push_step.new.steps } in
     let adds : Adds (length c.args.self.now.table.rows.items) (bounds c.args.self.now) (place_in c.args.atoms.now c.args.diff.now.a) (place_in c.args.atoms.now c.args.diff.now.b) c.args.diff.now.c (bounds new) = rw (c.place-a.ensures, c.place-b.ensures, to_z-of_z w64 c.args.diff.now.c fc) at c.in_ok-add.ensures.adds in
     let edges : c.add.new.self.edges.items ≡ c.args.self.now.table.edges.items ++ edge_of c.args.atoms.now c.args.diff.now (length c.args.self.now.steps) ∷ [] = rw (c.place-a.ensures, c.place-b.ensures, to_z-of_z w64 c.args.diff.now.c fc, c.in_ok-at.ensures.number) at c.in_ok-add.ensures.edges in
-    grown-added c.args.atoms.now c.args.self.now new c.args.diff.now c.args.step c.requires.fine c.requires.over c.in_ok-add.ensures.long adds edges c.in_ok-add.ensures.traced c.in_ok-at.ensures.steps
+    grown-added c.args.atoms.now c.args.self.now new c.args.diff.now c.args.step c.requires.fine c.requires.over c.in_ok-add.ensures.long adds edges c.in_ok-add.ensures.marked c.in_ok-add.ensures.traced c.in_ok-at.ensures.steps

@@ -1,7 +1,6 @@
-use Rattle.std.proofs.Common.{◌-◌, length}
 use Rattle.bound_close.specs.Workings.{bounds}
-use Rattle.bound_close.proofs.Passing.{fails-at}
+use Rattle.bound_close.proofs.Passing.{low-at}
 use Rattle.bound_close.proofs.workings.Workings.open_from.Goals as goal
 
-pub returns-then-is_above-clause-fails : goal.returns-then-is_above-clause-fails
-returns-then-is_above-clause-fails c = λ l. fails-at c.args.atoms.now (bounds c.args.self.now) c.args.premises.now (length c.args.premises.now - 1) c.seen_at-seen.result l (c.seen_at-seen.ensures l) (c.is_above.ensures.above c.if-is_above.true)
+pub returns-clause-low : goal.returns-clause-low
+returns-clause-low c = λ l. low-at c.args.atoms.now (bounds c.args.self.now) c.args.premises.now c.first_open-at.result c.seen_at-seen-2.result l c.first_open-at.ensures.open (c.seen_at-seen-2.ensures l)
