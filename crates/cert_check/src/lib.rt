@@ -2,5 +2,6 @@
 #![tactic(auto)]
 
 pub mod check;
+pub mod laws;
 pub mod refusal;
 mod step;

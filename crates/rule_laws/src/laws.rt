@@ -1,29 +1,41 @@
 // Each line of the table of rules is sound: for arrays of the declared lengths that have the
 // property, true premises give true results.
-ghost use Rattle.std.specs.Prelude.{true, false, IsTrue, List};
-ghost use Rattle.std.specs.List.{All};
+ghost use Rattle.std.specs.Prelude.{◌+◌, ◌^◌, true, false, IsTrue, List};
+ghost use Rattle.std.specs.List.{All, Contains, flat_map};
 ghost use Rattle.wave_base.specs.declared.types.ArrayId.{ArrayId};
 ghost use Rattle.loop_core.specs.declared.decl.Decl.{Decl};
 ghost use Rattle.loop_core.specs.declared.decl.PropDecl.{PropDecl};
 ghost use Rattle.loop_core.specs.declared.decl.PropKind.{PropKind};
 ghost use Rattle.loop_core.specs.declared.decl.PropKind.TheVariants.{Range, Rising, Strict, Injective, Sorted, Below, Upto, Diagonal, Before};
+ghost use Rattle.loop_core.specs.declared.nest.Nest.{Nest};
 ghost use Rattle.loop_core.specs.declared.nest.Term.{Term};
 ghost use Rattle.loop_core.specs.declared.nest.Atom.{Atom};
 ghost use Rattle.loop_core.specs.Binding.{Binding};
 ghost use Rattle.loop_core.specs.Lists.{Lists};
-ghost use Rattle.loop_core.specs.IsNest.{is_bound};
+ghost use Rattle.loop_core.specs.IsNest.{IsNest, is_bound};
+ghost use Rattle.loop_core.specs.Shape.{body_lines, line_terms};
 ghost use Rattle.loop_core.specs.Sizes.{is_index};
 ghost use Rattle.index_props.specs.declared.rule.PairLine.TheVariants.{Equal as EqualLine, Injective as InjectiveLine, Ordered as OrderedLine};
+ghost use Rattle.index_props.specs.declared.rule.RuleInst.{RuleInst};
 ghost use Rattle.index_props.specs.Entries.{entry_of};
+ghost use Rattle.uf_constraints.specs.Constants.{IndexesWithin, TermsWithin, atom_within};
 ghost use Rattle.uf_constraints.specs.Over.{IsClosed};
 ghost use Rattle.index_props.specs.Meanings.{Passes};
 ghost use Rattle.index_props.specs.Rules.{pair_instance, range_instance, sorted_instance, limit_instance, diagonal_instance, before_instance, order, instances_of};
 ghost use Rattle.index_props.specs.Sound.{IsSound, segment_of, IndexLengths, Follows, AllNameIndexes};
 ghost use Rattle.index_props.specs.Table.{IsInstance, IsRuleOver};
+ghost use Rattle.index_props.specs.Within.{AllBoundsWithin};
+ghost use Rattle.rule_laws.specs.Small.{IsSmallRule};
 
 /// Each instance is a line of the table, and all array entries that it names are in the universe.
 pub fn instances_are_lines()
     ensures { (decls : List Decl) (props : List PropDecl) (atoms : List Atom) → All (IsInstance decls props atoms) (instances_of decls props atoms) }
+{}
+
+/// Each line of the table at array entries of the universe is an instance.
+pub fn lines_are_instances()
+    ensures { (decls : List Decl) (props : List PropDecl) (atoms : List Atom) (r : RuleInst) → IsInstance decls props atoms r
+        → Contains (instances_of decls props atoms) r }
 {}
 
 /// Each instance is sound: for arrays of the declared lengths that have all declared properties,
@@ -39,6 +51,22 @@ pub fn instances_are_sound()
 pub fn instances_are_over()
     ensures { (decls : List Decl) (props : List PropDecl) (atoms : List Atom) → AllNameIndexes decls props → IsClosed atoms
         → All (IsRuleOver atoms) (instances_of decls props atoms) }
+{}
+
+/// The right sides of each instance are from -2^23 to 2^23, under the conditions of `instances`.
+pub fn instances_are_small()
+    ensures { (decls : List Decl) (props : List PropDecl) (atoms : List Atom) → IndexesWithin (2 ^ 21 + 1) atoms → AllBoundsWithin props
+        → All IsSmallRule (instances_of decls props atoms) }
+{}
+
+/// A nest meets the conditions of `universe`, `instances` and the laws above: the constants of its
+/// terms and of the bounds of its properties are from -2^21 to 2^21, and its properties name index
+/// arrays.
+pub fn nest_meets_conditions()
+    ensures names { (nest : Nest) → IsNest nest → AllNameIndexes nest.decls nest.props }
+    ensures bounds { (nest : Nest) → IsNest nest → AllBoundsWithin nest.props }
+    ensures terms { (nest : Nest) → IsNest nest → TermsWithin (2 ^ 21) (flat_map (λ l. line_terms l.form) (body_lines nest)) }
+    ensures atoms { (nest : Nest) → IsNest nest → All (λ t. IsTrue (atom_within (2 ^ 21) t.atom)) (flat_map (λ l. line_terms l.form) (body_lines nest)) }
 {}
 
 /// Equal arguments give equal entries, whatever the property.
