@@ -1,9 +1,12 @@
+pub mod Bases
 pub mod Bindings
+pub mod Brackets
 pub mod Constants
 pub mod Once
 pub mod Over
 pub mod Pairs
 pub mod Refusal
+pub mod Relations
 pub mod Same
 pub mod Truth
 pub mod Universe

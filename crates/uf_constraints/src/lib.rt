@@ -4,6 +4,7 @@
 pub mod env;
 mod listing;
 pub mod plain;
+pub mod reach;
 pub mod same;
 pub mod small;
 pub mod system;

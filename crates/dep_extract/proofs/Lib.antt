@@ -1,0 +1,12 @@
+pub mod Stepping
+pub mod Members
+pub mod Worth
+pub mod Entries
+pub mod Rounds
+pub mod Writing
+pub mod Turns
+pub mod Reached
+pub mod Holding
+pub mod Sided
+pub mod Dependent
+pub mod OfBrackets

@@ -1,0 +1,5 @@
+//! Tests of references and relations.
+#![tactic(auto)]
+
+#[cfg(test)]
+mod forward;
