@@ -112,6 +112,7 @@ fn a_real_file_is_fetched_in_pieces(rt: HostRuntime) -> Result<(), Fail> {
         assert!(rt; taken == Ok(count) && into[0] == first);
     }
     fs::remove_file(&rt, name)?;
+    assert_eq!(rt; lib.faults_seen(), 0);
     Ok(())
 }
 

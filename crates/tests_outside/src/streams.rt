@@ -1,6 +1,7 @@
 // Texts into sinks, in memory and over streams.
-use std::fs;
+use std::io::Write;
 use std::test::Fail;
+use std::{fs, io};
 use wave_io::failed::Failed;
 use wave_io::mem_sink::MemSink;
 use wave_io::put_all::put_all;
@@ -44,4 +45,26 @@ fn a_refused_write_is_counted(rt: HostRuntime) -> Result<(), Fail> {
     let put = put_all(&mut closed, b"lost");
     assert!(rt; put == Err(Failed) && closed.faults_seen() == 1);
     Ok(())
+}
+
+// Takes one byte at a call.
+#[derive(Drop)]
+struct OneByte;
+
+impl Write for OneByte {
+    fn write(&mut self, bytes: &[u8]) -> io::Result<usize> {
+        Ok(bytes.len().min(1))
+    }
+
+    fn flush(&mut self) -> io::Result<()> {
+        Ok(())
+    }
+}
+
+#[test]
+fn a_short_write_is_answered_as_such(rt: HostRuntime) {
+    let mut sink = StdSink::new(OneByte);
+    let put = sink.put(b"array");
+    let none = sink.put(b"");
+    assert!(rt; put == Ok(1) && none == Ok(0) && sink.faults_seen() == 0);
 }

@@ -13,7 +13,7 @@ fn strings(alloc: Global, words: &[&str]) -> Result<Vec<String>, Memory> {
     Ok(strings)
 }
 
-fn place(alloc: Global, words: &[&str]) -> Result<Option<u32>, Fail> {
+fn asked(alloc: Global, words: &[&str]) -> Result<Result<Form, u32>, Fail> {
     let words = strings(alloc, words)?;
     if words.len() > 100 {
         return Err("too many words".into());
@@ -33,21 +33,21 @@ fn place(alloc: Global, words: &[&str]) -> Result<Option<u32>, Fail> {
 
 #[test]
 fn words_of_commands_are_taken(rt: HostRuntime) -> Result<(), Fail> {
-    let table: [&[&str]; 11] = [
-        &["run", "L", "A", "1"],
-        &["run", "", "A", "64", "B", "C", "D"],
-        &["demo", "grid", "1", "1"],
-        &["demo", "grid", "400", "64"],
-        &["demo", "lower", "0", "1"],
-        &["demo", "lower", "4294967295", "1"],
-        &["plan", "L", "A", "2", "B"],
-        &["replay", "L", "A", "9", "O"],
-        &["check", "L", "A"],
-        &["explain", "L"],
-        &["show", "L"],
+    let table: [(&[&str], Form); 11] = [
+        (&["run", "L", "A", "1"], Form::Run),
+        (&["run", "", "A", "64", "B", "C", "D"], Form::Run),
+        (&["demo", "grid", "1", "1"], Form::DemoGrid),
+        (&["demo", "grid", "400", "64"], Form::DemoGrid),
+        (&["demo", "lower", "0", "1"], Form::DemoLower),
+        (&["demo", "lower", "4294967295", "1"], Form::DemoLower),
+        (&["plan", "L", "A", "2", "B"], Form::Plan),
+        (&["replay", "L", "A", "9", "O"], Form::Replay),
+        (&["check", "L", "A"], Form::Check),
+        (&["explain", "L"], Form::Explain),
+        (&["show", "L"], Form::Show),
     ];
-    for words in table {
-        assert_eq!(rt; place(rt.alloc(), words)?, None);
+    for (words, form) in table {
+        assert_eq!(rt; asked(rt.alloc(), words)?, Ok(form));
     }
     Ok(())
 }
@@ -77,7 +77,7 @@ fn the_first_wrong_or_missing_word_is_named(rt: HostRuntime) -> Result<(), Fail>
         (&["show"], 1),
     ];
     for (words, wrong) in table {
-        assert_eq!(rt; place(rt.alloc(), words)?, Some(wrong));
+        assert_eq!(rt; asked(rt.alloc(), words)?, Err(wrong));
     }
     Ok(())
 }

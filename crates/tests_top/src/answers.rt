@@ -14,6 +14,11 @@ const BY_COLUMNS_MATRIX: &str =
 
 const BY_COLUMNS_VECTOR: &str = "%%MatrixMarket matrix array integer general\n4 1\n5\n1\n2\n20\n";
 
+const NO_DIAGONAL: &str =
+    "%%MatrixMarket matrix coordinate integer general\n3 3 4\n1 1 1\n2 1 2\n3 2 3\n3 3 1\n";
+
+const CHECK: [&str; 4] = ["check", "L", "A", "B"];
+
 const SCATTER: &str = "matrix a csr\nindex q n\nvector x n zero\nloop i\n  set x[q[i]] = 5\nend\n";
 
 const PLACES: &str = "%%MatrixMarket matrix array integer general\n3 1\n2\n0\n1\n";
@@ -60,12 +65,11 @@ fn words_of_no_command_are_refused(rt: HostRuntime) -> Result<(), Fail> {
 
 #[test]
 fn commands_that_are_not_built_are_refused(rt: HostRuntime) -> Result<(), Fail> {
-    let table: [(&[&str], &str); 5] = [
+    let table: [(&[&str], &str); 4] = [
         (&["run", "L", "A", "2", "B"], "not built word 3\n"),
         (&["explain", "L"], "not built word 0\n"),
         (&["demo", "lower", "0", "64"], "not built word 0\n"),
         (&["replay", "L", "A", "1", "O"], "not built word 0\n"),
-        (&["check", "L", "A"], "not built word 0\n"),
     ];
     for (words, line) in table {
         let outcome = call(&rt, words, &[])?;
@@ -89,6 +93,14 @@ fn the_first_faulty_file_is_named(rt: HostRuntime) -> Result<(), Fail> {
         (LOOP, wide, "x", 9, "matrix word 4 header\n"),
         (LOOP, wide, VECTOR, 10, "shape rows 2 columns 3\n"),
         (LOOP, MATRIX, ONE_VECTOR, 10, length),
+        (LOOP, NO_DIAGONAL, ONE_VECTOR, 10, length),
+        (
+            LOOP,
+            NO_DIAGONAL,
+            VECTOR,
+            11,
+            "property 5 first 1 second 1\n",
+        ),
     ];
     for (text, matrix, vector, code, line) in table {
         let outcome = call(&rt, &RUN, &[("L", text), ("A", matrix), ("B", vector)])?;
@@ -139,10 +151,33 @@ fn shows_the_loop(rt: HostRuntime) -> Result<(), Fail> {
 }
 
 #[test]
+fn checks_count_the_properties(rt: HostRuntime) -> Result<(), Fail> {
+    let twice = "matrix a csr\nrising a.ptr\nrising a.ptr\nloop i\nend\n";
+    let files = [("L", LOOP), ("A", MATRIX), ("B", VECTOR)];
+    let five = call(&rt, &CHECK, &files)?;
+    let two = call(&rt, &["check", "L", "A"], &[("L", twice), ("A", MATRIX)])?;
+    assert!(rt; five.is(0, "passed 5\n", ""));
+    assert!(rt; two.is(0, "passed 2\n", ""));
+    Ok(())
+}
+
+#[test]
+fn checks_refuse_as_runs(rt: HostRuntime) -> Result<(), Fail> {
+    let broken = [("L", LOOP), ("A", NO_DIAGONAL), ("B", VECTOR)];
+    let short = [("L", LOOP), ("A", NO_DIAGONAL), ("B", ONE_VECTOR)];
+    let property = call(&rt, &CHECK, &broken)?;
+    let shape = call(&rt, &CHECK, &short)?;
+    assert!(rt; property.is(11, "", "property 5 first 1 second 1\n"));
+    assert!(rt; shape.is(10, "", "shape length word 3 have 1 want 3\n"));
+    Ok(())
+}
+
+#[test]
 fn the_quiet_call_leaves_runs_to_others(rt: HostRuntime) -> Result<(), Fail> {
     let alloc = rt.alloc();
     for (words, wanted) in [
         (["show", "L"], Status::Done),
+        (["check", "L"], Status::Usage { word: 2 }),
         (["explain", "L"], Status::NotBuilt { word: 0 }),
         (["run", "L"], Status::Usage { word: 0 }),
         (["demo", "grid"], Status::Usage { word: 0 }),

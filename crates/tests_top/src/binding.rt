@@ -50,6 +50,7 @@ fn nest_of(alloc: Global, kinds: &[DeclKind]) -> Result<Nest, Fail> {
     Ok(Nest {
         decls,
         props: Items::new(alloc),
+        locals: Items::new(alloc),
         line: 2,
         name: Name::of(b"i").ok_or("a name is too long")?,
         body: Items::new(alloc),

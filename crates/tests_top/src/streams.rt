@@ -1,6 +1,9 @@
 // Calls whose files or streams fail.
-use crate::calls::{LOOP, MATRIX, RUN, VECTOR, call, call_over, library, stream};
+use crate::calls::{LOOP, MATRIX, Outcome, RUN, VECTOR, call, call_over, library, stream};
+use std::sync::Wait;
 use std::test::Fail;
+use std::thread::Threads;
+use wave_base::types::Memory;
 use wave_io::mem_library::MemLibrary;
 use wave_io::mem_sink::MemSink;
 
@@ -15,18 +18,43 @@ fn a_missing_file_is_named(rt: HostRuntime) -> Result<(), Fail> {
     Ok(())
 }
 
+/// A run of this loop in which the fetch of that number fails.
+fn failing_at<R: AllocGlobal + Threads + Wait>(
+    rt: &R,
+    text: &str,
+    number: u64,
+) -> Result<Outcome, Memory> {
+    let alloc = rt.alloc();
+    let files = [("L", text), ("A", MATRIX), ("B", VECTOR)];
+    let lib = library(alloc, &files, &[number])?;
+    let out = stream(alloc, 1000, 1000)?;
+    let err = stream(alloc, 100, 100)?;
+    call_over(rt, &RUN, lib, out, err)
+}
+
 #[test]
 fn a_failed_read_is_named(rt: HostRuntime) -> Result<(), Fail> {
-    let alloc = rt.alloc();
-    let lib = library(alloc, &FILES, &[3])?;
-    let outcome = call_over(
-        &rt,
-        &RUN,
-        lib,
-        stream(alloc, 1000, 1000)?,
-        stream(alloc, 100, 100)?,
-    )?;
+    let outcome = failing_at(&rt, LOOP, 3)?;
     assert!(rt; outcome.is(7, "", "read word 2\n"));
+    Ok(())
+}
+
+/// Each file takes two fetches, and no file is judged before all are there: this loop has no line of
+/// the language.
+#[test]
+fn files_are_fetched_once_in_the_order_of_their_words(rt: HostRuntime) -> Result<(), Fail> {
+    for (number, code, line) in [
+        (1, 7, "read word 1\n"),
+        (2, 7, "read word 1\n"),
+        (3, 7, "read word 2\n"),
+        (4, 7, "read word 2\n"),
+        (5, 7, "read word 4\n"),
+        (6, 7, "read word 4\n"),
+        (7, 3, "loop text line 1\n"),
+    ] {
+        let outcome = failing_at(&rt, "x\n", number)?;
+        assert!(rt; outcome.is(code, "", line), "{line}");
+    }
     Ok(())
 }
 

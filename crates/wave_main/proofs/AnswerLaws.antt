@@ -1,149 +1,101 @@
 -- At most one refusal stands, none beside a text, and a command has one text.
-use Rattle.std.proofs.Common.{ℕ, ◌≡◌, inl, inr, ◌≤◌, List, Option, Some, None, drop, refl, sym, ◌∙◌, ap, subst, arith}
+use Rattle.std.proofs.Common.{ℕ, ℤ, ◌≡◌, inl, inr, List, Option, Some, sym, ◌∙◌, ap, subst}
 use Rattle.loop_core.specs.declared.nest.Nest.{Nest}
+use Rattle.loop_core.specs.Lists.{Lists}
 use Rattle.loop_print.specs.PrintText.{nest_text}
-use Rattle.loop_syntax.proofs.OneNest.{one_nest}
-use Rattle.wave_words.specs.Words.{IsUsageAt}
+use Rattle.wave_words.specs.Forms.{number}
+use Rattle.wave_words.specs.declared.form.Form.{Form}
+use Rattle.wave_words.specs.declared.form.Form.TheVariants as forms
+use Rattle.wave_main.specs.declared.input.Input.{Input}
 use Rattle.wave_main.specs.declared.status.Status.{Status}
-use Rattle.wave_main.specs.declared.status.Status.TheVariants.{Usage}
 use Rattle.wave_main.specs.Answers.{AreFilesOf, AreTold}
-use Rattle.wave_main.specs.Commands.{IsBuiltRun, IsShow, Prints, Refuses, RefusesWords, all_forms}
-use Rattle.wave_main.specs.Files.{word_of}
-use Rattle.wave_main.specs.Loops.{IsLoop, loop_fault}
-use Rattle.wave_main.specs.Matrices.{matrix_of, vectors_of}
-use Rattle.wave_main.specs.Run.{RunPrints, run_fault, run_text, vector_files}
-use Rattle.wave_main.proofs.FileLaws.{same_file, same_vectors}
-use Rattle.wave_main.proofs.WordLaws.{run_not_show, unbuilt_not_run, unbuilt_not_show, run_is_command, show_is_command, unbuilt_is_command}
-
-one_place : (ws : List (List ℕ)) (p q : ℕ) → IsUsageAt all_forms ws p → IsUsageAt all_forms ws q → p ≡ q
-one_place ws p q a b =
-    let below : p ≤ q = b.longest p a.within a.begins in
-    let above : q ≤ p = a.longest q b.within b.begins in omega (arith, below, above)
-
-one_word : (ws : List (List ℕ)) (a b : Status) → RefusesWords ws a → RefusesWords ws b → a ≡ b
-one_word ws a b x y = elim x [
-  | inl (p, usage, is) ↦ elim y [
-    | inl (q, other, also) ↦ is ∙ ap Usage (one_place ws p q usage other) ∙ sym also
-    | inr later ↦ elim later [
-      | inl (command, also) ↦ absurd (usage.refused (unbuilt_is_command ws command))
-      | inr (run, not_one, also) ↦ absurd (usage.refused (run_is_command ws run))
-    ]
-  ]
-  | inr later ↦ elim later [
-    | inl (command, is) ↦ elim y [
-      | inl (q, other, also) ↦ absurd (other.refused (unbuilt_is_command ws command))
-      | inr later ↦ elim later [
-        | inl (again, also) ↦ is ∙ sym also
-        | inr (run, not_one, also) ↦ absurd (unbuilt_not_run ws command run)
-      ]
-    ]
-    | inr (run, not_one, is) ↦ elim y [
-      | inl (q, other, also) ↦ absurd (other.refused (run_is_command ws run))
-      | inr later ↦ elim later [
-        | inl (command, also) ↦ absurd (unbuilt_not_run ws command run)
-        | inr (again, still, also) ↦ is ∙ sym also
-      ]
-    ]
-  ]
-]
-
-pub run_words_stand : (ws : List (List ℕ)) (a : Status) → IsBuiltRun ws → ¬ RefusesWords ws a
-run_words_stand ws a built x = elim x [
-  | inl (p, usage, is) ↦ usage.refused (run_is_command ws built.run)
-  | inr later ↦ elim later [
-    | inl (command, is) ↦ unbuilt_not_run ws command built.run
-    | inr (run, not_one, is) ↦ not_one built.one_worker
-  ]
-]
-
-pub show_words_stand : (ws : List (List ℕ)) (a : Status) → IsShow ws → ¬ RefusesWords ws a
-show_words_stand ws a show x = elim x [
-  | inl (p, usage, is) ↦ usage.refused (show_is_command ws show)
-  | inr later ↦ elim later [
-    | inl (command, is) ↦ unbuilt_not_show ws command show
-    | inr (run, not_one, is) ↦ run_not_show ws run show
-  ]
-]
-
-one_some : (o : Option Status) (a b : Status) → o ≡ Some a → o ≡ Some b → a ≡ b
-one_some o a b x y = let e : Some a ≡ Some b = sym x ∙ y in cc
+use Rattle.wave_main.specs.Binding.{index_arrays, data_arrays}
+use Rattle.wave_main.specs.Commands.{IsText, Prints, Refuses, inputs_of, stages}
+use Rattle.wave_main.specs.Files.{Inputs, word_of}
+use Rattle.wave_main.specs.Run.{IsInput, IsWork, Work, run_text}
+use Rattle.wave_main.specs.Stages.{AcceptAll, IsRefusedBy}
+use Rattle.wave_main.specs.Texts.{passed_text}
+use Rattle.wave_main.proofs.FileLaws.{same_inputs}
+use Rattle.wave_main.proofs.StageLaws.{one_by_stages, none_by_stages, one_loop}
+use Rattle.wave_main.proofs.WordLaws.{one_form, one_word, built_stands}
 
 pub one_refusal : (ws files : List (List ℕ)) (a b : Status) → Refuses ws files a → Refuses ws files b → a ≡ b
 one_refusal ws files a b x y = elim x [
   | inl words ↦ elim y [
     | inl other ↦ one_word ws a b words other
-    | inr later ↦ elim later [
-      | inl (built, e) ↦ absurd (run_words_stand ws a built words)
-      | inr (show, e) ↦ absurd (show_words_stand ws a show words)
-    ]
+    | inr (form, built, calls) ↦ absurd (built_stands ws form a built words)
   ]
-  | inr later ↦ elim later [
-    | inl (built, e) ↦ elim y [
-      | inl other ↦ absurd (run_words_stand ws b built other)
-      | inr later ↦ elim later [
-        | inl (again, f) ↦ one_some (run_fault files) a b e f
-        | inr (show, f) ↦ absurd (run_not_show ws built.run show)
-      ]
-    ]
-    | inr (show, e) ↦ elim y [
-      | inl other ↦ absurd (show_words_stand ws b show other)
-      | inr later ↦ elim later [
-        | inl (built, f) ↦ absurd (run_not_show ws built.run show)
-        | inr (again, f) ↦ one_some (loop_fault (word_of files 1)) a b e f
-      ]
-    ]
+  | inr (form, built, calls) ↦ elim y [
+    | inl other ↦ absurd (built_stands ws form b built other)
+    | inr (again, also, other) ↦
+        let same = one_form ws form again built also in
+        let P : Form → Type 0 = λ f. IsRefusedBy (stages f) (inputs_of f files) b in
+        one_by_stages (stages form) (inputs_of form files) a b calls (subst P same other)
   ]
 ]
-
-none_some : (o : Option Status) (a : Status) → o ≡ None → ¬ (o ≡ Some a)
-none_some o a x y = let e : None ≡ Some a = sym x ∙ y in cc
 
 pub no_refusal : (ws files : List (List ℕ)) (text : List ℕ) (why : Status) → Prints ws files text → ¬ Refuses ws files why
-no_refusal ws files text why prints x = elim prints [
-  | inl (built, run) ↦ elim x [
-    | inl words ↦ run_words_stand ws why built words
-    | inr later ↦ elim later [
-      | inl (again, e) ↦ none_some (run_fault files) why run.accepted e
-      | inr (show, e) ↦ run_not_show ws built.run show
-    ]
-  ]
-  | inr (show, (nest, is, text_is)) ↦ elim x [
-    | inl words ↦ show_words_stand ws why show words
-    | inr later ↦ elim later [
-      | inl (built, e) ↦ run_not_show ws built.run show
-      | inr (again, e) ↦ none_some (loop_fault (word_of files 1)) why is.accepted e
-    ]
-  ]
+no_refusal ws files text why (form, built, accept, is) x = elim x [
+  | inl words ↦ built_stands ws form why built words
+  | inr (again, also, calls) ↦
+      let same = one_form ws form again built also in
+      let P : Form → Type 0 = λ f. IsRefusedBy (stages f) (inputs_of f files) why in
+      none_by_stages (stages form) (inputs_of form files) why accept (subst P same calls)
 ]
 
-one_loop : (bytes : List ℕ) (a b : Nest) → IsLoop bytes a → IsLoop bytes b → a ≡ b
-one_loop bytes a b x y = one_nest _ a b x.read.of_text y.read.of_text
+-- ---- one text
+
+one_input : (files : Inputs) (a b : Input) → IsInput files a → IsInput files b → a ≡ b
+one_input files a b x y =
+    let n : a.nest ≡ b.nest = one_loop files.loop_file a.nest b.nest x.is_loop y.is_loop in
+    let i : a.arrays ≡ b.arrays = x.arrays ∙ ap (λ (m : Nest). index_arrays m.decls files) n ∙ sym y.arrays in
+    let v : a.values ≡ b.values = x.values ∙ ap (λ (m : Nest). data_arrays m.decls files) n ∙ sym y.values in
+    let one : a ≡ record { nest = b.nest; arrays = a.arrays; values = a.values } = ap (λ (m : Nest). record { nest = m; arrays = a.arrays; values = a.values }) n in
+    let two : record { nest = b.nest; arrays = a.arrays; values = a.values } ≡ record { nest = b.nest; arrays = b.arrays; values = a.values } = ap (λ (l : Lists). record { nest = b.nest; arrays = l; values = a.values }) i in
+    let three : record { nest = b.nest; arrays = b.arrays; values = a.values } ≡ b = ap (λ (l : List (List ℤ)). record { nest = b.nest; arrays = b.arrays; values = l }) v in
+    one ∙ two ∙ three
+
+same_number : (o : Option ℕ) (a b : ℕ) → o ≡ Some a → o ≡ Some b → a ≡ b
+same_number o a b x y = let e : Some a ≡ Some b = sym x ∙ y in cc
+
+-- words and files determine one work
+pub one_work : (ws : List (List ℕ)) (files : Inputs) (a b : Work) → IsWork ws files a → IsWork ws files b → a ≡ b
+one_work ws files a b x y =
+    let i : a.input ≡ b.input = one_input files a.input b.input x.input y.input in
+    let w : a.workers ≡ b.workers = same_number (number (word_of ws 3)) a.workers b.workers x.workers y.workers in
+    let one : a ≡ record { input = b.input; workers = a.workers } = ap (λ (l : Input). record { input = l; workers = a.workers }) i in
+    let two : record { input = b.input; workers = a.workers } ≡ b = ap (λ k. record { input = b.input; workers = k }) w in
+    one ∙ two
+
+pub one_text_of : (form : Form) (ws : List (List ℕ)) (files : Inputs) (t u : List ℕ) → IsText form ws files t → IsText form ws files u → t ≡ u
+one_text_of forms.Run ws files t u x y = x.printed ∙ ap (λ (w : Work). run_text w.input) (one_work ws files x.work y.work x.is_work y.is_work) ∙ sym y.printed
+one_text_of forms.Check ws files t u x y = x.printed ∙ ap passed_text (one_loop files.loop_file x.nest y.nest x.is_loop y.is_loop) ∙ sym y.printed
+one_text_of forms.Show ws files t u x y = x.printed ∙ ap nest_text (one_loop files.loop_file x.nest y.nest x.is_loop y.is_loop) ∙ sym y.printed
+one_text_of forms.DemoGrid ws files t u x y = absurd x
+one_text_of forms.DemoLower ws files t u x y = absurd x
+one_text_of forms.Plan ws files t u x y = absurd x
+one_text_of forms.Replay ws files t u x y = absurd x
+one_text_of forms.Explain ws files t u x y = absurd x
 
 pub one_text : (ws files : List (List ℕ)) (t u : List ℕ) → Prints ws files t → Prints ws files u → t ≡ u
-one_text ws files t u x y = elim x [
-  | inl (built, run) ↦ elim y [
-    | inl (again, other) ↦
-        let same : run.nest ≡ other.nest = one_loop (word_of files 1) run.nest other.nest run.is_loop other.is_loop in
-        run.printed ∙ ap (λ n. run_text n (matrix_of (word_of files 2)) (vectors_of (vector_files files))) same ∙ sym other.printed
-    | inr (show, rest) ↦ absurd (run_not_show ws built.run show)
-  ]
-  | inr (show, (nest, is, text_is)) ↦ elim y [
-    | inl (built, run) ↦ absurd (run_not_show ws built.run show)
-    | inr (again, (other, also, text_also)) ↦ text_is ∙ ap nest_text (one_loop (word_of files 1) nest other is also) ∙ sym text_also
-  ]
-]
+one_text ws files t u (form, built, accept, is) (again, also, accepted, other) =
+    let same = one_form ws form again built also in
+    let P : Form → Type 0 = λ f. IsText f ws (inputs_of f files) u in
+    one_text_of form ws (inputs_of form files) t u is (subst P same other)
 
--- told files print what the files print
+-- ---- told files
+
 pub told_prints : (held : List ℕ → Option (List ℕ)) (ws files told : List (List ℕ)) (text : List ℕ) → AreFilesOf held ws files → AreTold held ws told → Prints ws told text → Prints ws files text
-told_prints held ws files told text are is prints = elim prints [
-  | inl (built, run) ↦
-      let l : word_of told 1 ≡ word_of files 1 = sym (same_file held ws files told are is 1 (inl (built, inl refl))) in
-      let m : word_of told 2 ≡ word_of files 2 = sym (same_file held ws files told are is 2 (inl (built, inr (inl refl)))) in
-      let v : drop 4 told ≡ drop 4 files = sym (same_vectors held ws files told built are is) in
-      let one = subst (λ x. RunPrints x (word_of told 2) (drop 4 told) text) l run in
-      let two = subst (λ x. RunPrints (word_of files 1) x (drop 4 told) text) m one in
-      inl (built, subst (λ x. RunPrints (word_of files 1) (word_of files 2) x text) v two)
-  | inr (show, (nest, loop, text_is)) ↦
-      let l : word_of told 1 ≡ word_of files 1 = sym (same_file held ws files told are is 1 (inr (show, refl))) in
-      inr (show, (nest, subst (λ x. IsLoop x nest) l loop, text_is))
+told_prints held ws files told text are is (form, built, accept, prints) =
+    let same = sym (same_inputs held ws files told form built are is) in
+    let P : Inputs → Type 0 = λ x. AcceptAll (stages form) x in
+    let Q : Inputs → Type 0 = λ x. IsText form ws x text in
+    (form, built, subst P same accept, subst Q same prints)
+
+pub told_refuses : (held : List ℕ → Option (List ℕ)) (ws files told : List (List ℕ)) (why : Status) → AreFilesOf held ws files → AreTold held ws told → Refuses ws files why → Refuses ws told why
+told_refuses held ws files told why are is x = elim x [
+  | inl words ↦ inl words
+  | inr (form, built, calls) ↦
+      let P : Inputs → Type 0 = λ i. IsRefusedBy (stages form) i why in
+      inr (form, built, subst P (same_inputs held ws files told form built are is) calls)
 ]

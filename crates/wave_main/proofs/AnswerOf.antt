@@ -3,10 +3,10 @@ use Rattle.std.proofs.Common.{ℕ, ◌≡◌, ◌≢◌, ◌⊎◌, inl, inr, Li
 use Rattle.std.specs.Prelude.{◌↔◌}
 use Rattle.wave_io.specs.Written.{grown}
 use Rattle.wave_main.specs.declared.status.Status.{Status}
-use Rattle.wave_main.specs.declared.status.Status.TheVariants.{Done, Usage, ReadFault, LoopText, LoopName, LoopLimit, MatrixText, Shape, NotBuilt, WriteFault, Memory}
+use Rattle.wave_main.specs.declared.status.Status.TheVariants.{Done, Usage, ReadFault, LoopText, LoopName, LoopLimit, MatrixText, Shape, Property, NotBuilt, WriteFault, Memory}
 use Rattle.wave_main.specs.Answers.{Call, Changes, Ends, IsRefusal, IsSettled, AreFilesOf, HasNoFault, IsAnswer}
 use Rattle.wave_main.specs.Commands.{Prints, Refuses}
-use Rattle.wave_main.proofs.AnswerLaws.{one_refusal, no_refusal, one_text, told_prints}
+use Rattle.wave_main.proofs.AnswerLaws.{one_refusal, no_refusal, one_text, told_prints, told_refuses}
 
 abbrev Exactly : List (List ℕ) → List (List ℕ) → Status → Type 0
 Exactly ws files status = (why : Status) → IsRefusal why → (status ≡ why) ↔ Refuses ws files why
@@ -36,6 +36,7 @@ refused_by ws files changes (LoopName line kind) (calls, same) settled = called 
 refused_by ws files changes (LoopLimit line kind) (calls, same) settled = called ws files (LoopLimit line kind) calls
 refused_by ws files changes (MatrixText word cause) (calls, same) settled = called ws files (MatrixText word cause) calls
 refused_by ws files changes (Shape kind) (calls, same) settled = called ws files (Shape kind) calls
+refused_by ws files changes (Property property first second) (calls, same) settled = called ws files (Property property first second) calls
 refused_by ws files changes (NotBuilt word) (calls, same) settled = called ws files (NotBuilt word) calls
 
 keeps_by : (ws files : List (List ℕ)) (changes : Changes) (status : Status) → Ends ws files changes status
@@ -50,21 +51,23 @@ keeps_by ws files changes (LoopName line kind) ends not_done not_fault = ends.1
 keeps_by ws files changes (LoopLimit line kind) ends not_done not_fault = ends.1
 keeps_by ws files changes (MatrixText word cause) ends not_done not_fault = ends.1
 keeps_by ws files changes (Shape kind) ends not_done not_fault = ends.1
+keeps_by ws files changes (Property property first second) ends not_done not_fault = ends.1
 keeps_by ws files changes (NotBuilt word) ends not_done not_fault = ends.1
 
 complete_by : (call : Call) (files : List (List ℕ)) (status : Status) → Ends call.words files call.changes status
-    → (text : List ℕ) → Prints call.words files text → HasNoFault call → (status ≡ Done) ⊎ (status ≡ Memory)
-complete_by call files Done ends text prints fine = inl refl
-complete_by call files Memory ends text prints fine = inr refl
-complete_by call files WriteFault ends text prints fine = absurd (fine.writes ends.0)
-complete_by call files (ReadFault word) ends text prints fine = absurd (fine.reads word ends.0)
-complete_by call files (Usage word) ends text prints fine = absurd (no_refusal call.words files text (Usage word) prints ends.0)
-complete_by call files (LoopText line) ends text prints fine = absurd (no_refusal call.words files text (LoopText line) prints ends.0)
-complete_by call files (LoopName line kind) ends text prints fine = absurd (no_refusal call.words files text (LoopName line kind) prints ends.0)
-complete_by call files (LoopLimit line kind) ends text prints fine = absurd (no_refusal call.words files text (LoopLimit line kind) prints ends.0)
-complete_by call files (MatrixText word cause) ends text prints fine = absurd (no_refusal call.words files text (MatrixText word cause) prints ends.0)
-complete_by call files (Shape kind) ends text prints fine = absurd (no_refusal call.words files text (Shape kind) prints ends.0)
-complete_by call files (NotBuilt word) ends text prints fine = absurd (no_refusal call.words files text (NotBuilt word) prints ends.0)
+    → ((why : Status) → ¬ Refuses call.words files why) → HasNoFault call → (status ≡ Done) ⊎ (status ≡ Memory)
+complete_by call files Done ends none fine = inl refl
+complete_by call files Memory ends none fine = inr refl
+complete_by call files WriteFault ends none fine = absurd (fine.writes ends.0)
+complete_by call files (ReadFault word) ends none fine = absurd (fine.reads word ends.0)
+complete_by call files (Usage word) ends none fine = absurd (none (Usage word) ends.0)
+complete_by call files (LoopText line) ends none fine = absurd (none (LoopText line) ends.0)
+complete_by call files (LoopName line kind) ends none fine = absurd (none (LoopName line kind) ends.0)
+complete_by call files (LoopLimit line kind) ends none fine = absurd (none (LoopLimit line kind) ends.0)
+complete_by call files (MatrixText word cause) ends none fine = absurd (none (MatrixText word cause) ends.0)
+complete_by call files (Shape kind) ends none fine = absurd (none (Shape kind) ends.0)
+complete_by call files (Property property first second) ends none fine = absurd (none (Property property first second) ends.0)
+complete_by call files (NotBuilt word) ends none fine = absurd (none (NotBuilt word) ends.0)
 
 pub answer_of : (call : Call) → (files : List (List ℕ)) × AreFilesOf call.held call.words files × Ends call.words files call.changes call.status → IsAnswer call
 answer_of call (files, are, ends) =
@@ -78,7 +81,7 @@ answer_of call (files, are, ends) =
       write_fault = λ is. let cut = subst P is ends in cut.0;
       read_fault = λ word is. let fault = subst P is ends in fault.0;
       keeps = keeps_by call.words files call.changes call.status ends;
-      complete = λ told are_told text prints fine. complete_by call files call.status ends text (told_prints call.held call.words files told text are are_told prints) fine;
+      complete = λ form built told are_told none fine. complete_by call files call.status ends (λ why calls. none why (told_refuses call.held call.words files told why are are_told calls)) fine;
       prints = λ is told are_told text prints.
           let done = subst P is ends in
           done.2 ∙ ap (grown call.changes.before) (one_text call.words files done.0 text done.1 (told_prints call.held call.words files told text are are_told prints));

@@ -1,18 +1,20 @@
 -- Files, and bytes that they may have.
-use Rattle.std.proofs.Common.{ℕ, zero, suc, ◌≡◌, ◌⊎◌, inl, inr, ◌<◌, ◌≤◌, ◌+◌, ◌-◌, ◌^◌, List, [], ◌∷◌, ◌++◌, Option, Some, None, length, map, drop, refl, sym, ◌∙◌, ap, subst, arith, replicate}
+use Rattle.std.proofs.Common.{ℕ, zero, suc, ◌≡◌, ◌⊎◌, inl, inr, ◌<◌, ◌≤◌, ◌+◌, ◌-◌, ◌^◌, List, [], ◌∷◌, ◌++◌, Option, Some, None, length, map, drop, Bool, true, false, nat_lt, refl, sym, ◌∙◌, ap, subst, arith, replicate}
+use Rattle.std.proofs.lemmas.Bool.Decides.{nat_tests}
 use Rattle.std.specs.Prelude.{IfSome, Vec, String, string_bytes, get_or, take, Result, Ok, Err, IsErrAnd, IfErr, MatchResult}
 use Rattle.wave_io.specs.Faults.{Rose}
 use Rattle.wave_words.specs.Words.{texts}
 use Rattle.wave_main.specs.declared.status.Status.{Status}
 use Rattle.wave_main.specs.declared.status.Status.TheVariants.{ReadFault, Memory}
 use Rattle.std.specs.declared.alloc.Global.{Global}
-use Rattle.std.proofs.lemmas.List.{length-replicate, length-drop, get_or-drop, ext_get_or, length-map}
-use Rattle.wave_main.specs.declared.fetch.RunBytes.{RunBytes}
+use Rattle.std.proofs.lemmas.List.{length-append, length-replicate, length-drop, get_or-drop, ext_get_or, length-map}
+use Rattle.wave_words.specs.declared.form.Form.{Form}
+use Rattle.wave_main.specs.declared.fetch.InputBytes.{InputBytes}
 use Rattle.wave_main.specs.Answers.{AreFilesOf, AreTold}
-use Rattle.wave_main.specs.Commands.{IsBuiltRun, IsShow, IsFilePlace}
-use Rattle.wave_main.specs.Fetching.{IsRunFetched, IsFaultFrom}
-use Rattle.wave_main.specs.Files.{MayBe, IsFetched, IsOfFile, AreFetched, MayBeAll, AreOfFiles, word_of}
-use Rattle.wave_main.proofs.WordLaws.{run_not_show, run_length, show_length}
+use Rattle.wave_main.specs.Commands.{IsBuilt, IsFilePlace, first_file, inputs_of}
+use Rattle.wave_main.specs.Fetching.{IsInputFetched, IsInputFault, IsFaultFrom}
+use Rattle.wave_main.specs.Files.{Inputs, MayBe, IsFetched, IsOfFile, AreFetched, MayBeAll, AreOfFiles, word_of}
+use Rattle.wave_main.proofs.WordLaws.{one_form}
 
 pub some_long : (limit : ℕ) (told : Option (List ℕ)) → IfSome told (λ all. limit < length all)
     → (bytes : List ℕ) × MayBe told bytes × (limit < length bytes)
@@ -63,42 +65,46 @@ may_be_at held (n ∷ ns) [] i all h = absurd all
 may_be_at held (n ∷ ns) (f ∷ fs) zero (first, rest) h = first
 may_be_at held (n ∷ ns) (f ∷ fs) (suc i) (first, rest) h = may_be_at held ns fs i rest (omega (arith, h))
 
--- ---- the files of a run
+-- ---- the files of a command
 
-run_file : (held : List ℕ → Option (List ℕ)) (ws files : List (List ℕ)) (got : RunBytes) → IsRunFetched held ws files got
-    → (place : ℕ) → (place ≡ 1) ⊎ (place ≡ 2) ⊎ ((4 ≤ place) × (place < length ws)) → MayBe (held (word_of ws place)) (word_of files place)
-run_file held ws files got is place which =
+input_file : (held : List ℕ → Option (List ℕ)) (ws : List (List ℕ)) (first : ℕ) (files : List (List ℕ)) (got : InputBytes) → IsInputFetched held ws first files got
+    → (place : ℕ) → place < length ws → (place ≡ 1) ⊎ (place ≡ 2) ⊎ (first ≤ place) → MayBe (held (word_of ws place)) (word_of files place)
+input_file held ws first files got is place below which =
     let P : ℕ → Type 0 = λ p. MayBe (held (word_of ws p)) (word_of files p) in
     elim which [
       | inl one ↦ subst P (sym one) is.loop_may
       | inr later ↦ elim later [
         | inl two ↦ subst P (sym two) is.matrix_may
-        | inr (from, below) ↦
-            let i = place - 4 in
-            let inside : i < length (drop 4 ws) = (let e = length-drop 4 ws in omega (arith, e, from, below)) in
-            let at : 4 + i ≡ place = omega (arith, from) in
-            let found : MayBe (held (word_of (drop 4 ws) i)) (word_of (drop 4 files) i) = may_be_at held (drop 4 ws) (drop 4 files) i is.vectors_may inside in
-            let there : P (4 + i) = rw (← get_or-drop 4 ws i [], ← get_or-drop 4 files i []) found in
+        | inr from ↦
+            let i = place - first in
+            let inside : i < length (drop first ws) = (let e = length-drop first ws in omega (arith, e, from, below)) in
+            let at : first + i ≡ place = omega (arith, from) in
+            let found : MayBe (held (word_of (drop first ws) i)) (word_of (drop first files) i) = may_be_at held (drop first ws) (drop first files) i is.vectors_may inside in
+            let there : P (first + i) = rw (← get_or-drop first ws i [], ← get_or-drop first files i []) found in
             subst P at there
       ]
     ]
 
-pub run_files : (held : List ℕ → Option (List ℕ)) (ws files : List (List ℕ)) (got : RunBytes) → IsBuiltRun ws → IsRunFetched held ws files got → AreFilesOf held ws files
-run_files held ws files got built is = record {
+pub input_files : (held : List ℕ → Option (List ℕ)) (ws : List (List ℕ)) (form : Form) (files : List (List ℕ)) (got : InputBytes) → IsBuilt ws form → IsInputFetched held ws (first_file form) files got → AreFilesOf held ws files
+input_files held ws form files got built is = record {
   one_each = is.one_each;
-  may_be = λ place which. elim which [
-    | inl (run, places) ↦ run_file held ws files got is place places
-    | inr (show, one) ↦ absurd (run_not_show ws built.run show)
-  ];
+  may_be = λ place (other, also, below, which).
+      let same = one_form ws form other built also in
+      let P : Form → Type 0 = λ f. (place ≡ 1) ⊎ (place ≡ 2) ⊎ (first_file f ≤ place) in
+      input_file held ws (first_file form) files got is place below (subst P same which);
 }
 
-pub show_files : (held : List ℕ → Option (List ℕ)) (ws : List (List ℕ)) (bytes : List ℕ) → IsShow ws → MayBe (held (word_of ws 1)) bytes → AreFilesOf held ws ([] ∷ bytes ∷ [])
-show_files held ws bytes show may = record {
-  one_each = sym (show_length ws show);
-  may_be = λ place which. elim which [
-    | inl (run, places) ↦ absurd (run_not_show ws run.run show)
-    | inr (also, one) ↦ let P : ℕ → Type 0 = λ p. MayBe (held (word_of ws p)) (word_of ([] ∷ bytes ∷ []) p) in subst P (sym one) may
-  ];
+pub loop_files : (held : List ℕ → Option (List ℕ)) (ws : List (List ℕ)) (form : Form) (bytes : List ℕ) → IsBuilt ws form → length ws ≡ 2 → first_file form ≡ 2 → MayBe (held (word_of ws 1)) bytes → AreFilesOf held ws ([] ∷ bytes ∷ [])
+loop_files held ws form bytes built two after may = record {
+  one_each = sym two;
+  may_be = λ place (other, also, below, which).
+      let same = one_form ws form other built also in
+      let P : Form → Type 0 = λ f. (place ≡ 1) ⊎ (place ≡ 2) ⊎ (first_file f ≤ place) in
+      let Q : ℕ → Type 0 = λ p. MayBe (held (word_of ws p)) (word_of ([] ∷ bytes ∷ []) p) in
+      elim (subst P same which) [
+        | inl one ↦ subst Q (sym one) may
+        | inr later ↦ elim later [ inl at ↦ absurd (omega (arith, at, below, two)) | inr from ↦ absurd (omega (arith, from, below, two, after)) ]
+      ];
 }
 
 -- ---- each file has some bytes
@@ -116,19 +122,10 @@ some_at held [] place h = absurd (omega (arith, h))
 some_at held (w ∷ ws) zero h = may_be (held w)
 some_at held (w ∷ ws) (suc i) h = some_at held ws i (omega (arith, h))
 
-place_within : (ws : List (List ℕ)) (place : ℕ) → IsFilePlace ws place → place < length ws
-place_within ws place which = elim which [
-  | inl (run, places) ↦ let long = run_length ws run.run in elim places [
-    | inl one ↦ omega (arith, one, long)
-    | inr later ↦ elim later [ inl two ↦ omega (arith, two, long) | inr (from, below) ↦ below ]
-  ]
-  | inr (show, one) ↦ let two = show_length ws show in omega (arith, one, two)
-]
-
 pub some_files : (held : List ℕ → Option (List ℕ)) (ws : List (List ℕ)) → (files : List (List ℕ)) × AreFilesOf held ws files
 some_files held ws = (
   map (λ w. bytes_or (held w)) ws,
-  record { one_each = length-map ws (λ w. bytes_or (held w)); may_be = λ place which. some_at held ws place (place_within ws place which) },
+  record { one_each = length-map ws (λ w. bytes_or (held w)); may_be = λ place (form, built, below, which). some_at held ws place below },
 )
 
 -- ---- told files are those
@@ -140,12 +137,45 @@ same_as_told (Some all) a b may is = let e : Some all ≡ Some b = is in let f :
 pub same_file : (held : List ℕ → Option (List ℕ)) (ws files told : List (List ℕ)) → AreFilesOf held ws files → AreTold held ws told → (place : ℕ) → IsFilePlace ws place → word_of files place ≡ word_of told place
 same_file held ws files told are is place which = same_as_told (held (word_of ws place)) (word_of files place) (word_of told place) (are.may_be place which) (is.told place which)
 
-pub same_vectors : (held : List ℕ → Option (List ℕ)) (ws files told : List (List ℕ)) → IsBuiltRun ws → AreFilesOf held ws files → AreTold held ws told → drop 4 files ≡ drop 4 told
-same_vectors held ws files told built are is =
-    let a = length-drop 4 files in
-    let b = length-drop 4 told in
-    ext_get_or [] (drop 4 files) (drop 4 told) (omega (arith, a, b, are.one_each, is.one_each)) (λ i h.
-    get_or-drop 4 files i [] ∙ same_file held ws files told are is (4 + i) (inl (built, inr (inr (omega arith, omega (arith, a, h, are.one_each))))) ∙ sym (get_or-drop 4 told i []))
+past_end : (files : List (List ℕ)) (place : ℕ) → length files ≤ place → word_of files place ≡ []
+past_end [] place h = refl
+past_end (f ∷ fs) zero h = absurd (omega (arith, h))
+past_end (f ∷ fs) (suc i) h = past_end fs i (omega (arith, h))
+
+by_order : (P : Type 0) (a b : ℕ) → ((a < b) → P) → ((b ≤ a) → P) → P
+by_order P a b f g = by_cases (nat_lt a b) refl
+  where
+    by_cases : (c : Bool) → nat_lt a b ≡ c → P
+    by_cases true e = f (grind (arith, nat_tests, e))
+    by_cases false e = g (grind (arith, nat_tests, e))
+
+same_place : (held : List ℕ → Option (List ℕ)) (ws files told : List (List ℕ)) (form : Form) → IsBuilt ws form → AreFilesOf held ws files → AreTold held ws told
+    → (place : ℕ) → (place ≡ 1) ⊎ (place ≡ 2) ⊎ (first_file form ≤ place) → word_of files place ≡ word_of told place
+same_place held ws files told form built are is place which =
+    by_order (word_of files place ≡ word_of told place) place (length ws)
+    (λ below. same_file held ws files told are is place (form, built, below, which))
+    (λ past. past_end files place (omega (arith, past, are.one_each)) ∙ sym (past_end told place (omega (arith, past, is.one_each))))
+
+same_vectors : (held : List ℕ → Option (List ℕ)) (ws files told : List (List ℕ)) (form : Form) → IsBuilt ws form → AreFilesOf held ws files → AreTold held ws told → drop (first_file form) files ≡ drop (first_file form) told
+same_vectors held ws files told form built are is =
+    let n = first_file form in
+    let a = length-drop n files in
+    let b = length-drop n told in
+    ext_get_or [] (drop n files) (drop n told) (omega (arith, a, b, are.one_each, is.one_each)) (λ i h.
+    get_or-drop n files i [] ∙ same_place held ws files told form built are is (n + i) (inr (inr (omega arith))) ∙ sym (get_or-drop n told i []))
+
+-- the files of a command are those that are told
+pub same_inputs : (held : List ℕ → Option (List ℕ)) (ws files told : List (List ℕ)) (form : Form) → IsBuilt ws form → AreFilesOf held ws files → AreTold held ws told → inputs_of form files ≡ inputs_of form told
+same_inputs held ws files told form built are is =
+    let l = same_place held ws files told form built are is 1 (inl refl) in
+    let m = same_place held ws files told form built are is 2 (inr (inl refl)) in
+    let v = same_vectors held ws files told form built are is in
+    let n = first_file form in
+    let first : Inputs = inputs_of form files in
+    let one : first ≡ record { loop_file = word_of told 1; matrix = word_of files 2; vectors = drop n files; first = n } = ap (λ (x : List ℕ). record { loop_file = x; matrix = word_of files 2; vectors = drop n files; first = n }) l in
+    let two : record { loop_file = word_of told 1; matrix = word_of files 2; vectors = drop n files; first = n } ≡ record { loop_file = word_of told 1; matrix = word_of told 2; vectors = drop n files; first = n } = ap (λ (x : List ℕ). record { loop_file = word_of told 1; matrix = x; vectors = drop n files; first = n }) m in
+    let three : record { loop_file = word_of told 1; matrix = word_of told 2; vectors = drop n files; first = n } ≡ inputs_of form told = ap (λ (x : List (List ℕ)). record { loop_file = word_of told 1; matrix = word_of told 2; vectors = x; first = n }) v in
+    one ∙ two ∙ three
 
 -- ---- names among the words of a call
 
@@ -207,43 +237,70 @@ all_of (suc n) [] h = refl
 all_of zero (x ∷ xs) h = absurd (omega (arith, h))
 all_of (suc n) (x ∷ xs) h = ap (λ l. x ∷ l) (all_of n xs (omega (arith, h)))
 
--- ---- what was fetched of a run's files
+-- ---- what was fetched of a command's files
 
-pub run_fetched : (held first second : List ℕ → Option (List ℕ)) (words : List (String Global)) (u v : String Global) (loop_name matrix_name : List ℕ) (got : RunBytes)
-    → 4 ≤ length words → u ≡ get_or words 1 u → v ≡ get_or words 2 v → loop_name ≡ string_bytes u → matrix_name ≡ string_bytes v
-    → ((other : List ℕ) → first other ≡ held other) → ((other : List ℕ) → second other ≡ first other)
-    → IsOfFile 65536 (held loop_name) got.loop_file → IsOfFile (2 ^ 28) (first matrix_name) got.matrix → AreOfFiles second (texts (take (length words - 4) (drop 4 words))) got.vectors.items
-    → (files : List (List ℕ)) × IsRunFetched held (texts words) files got
-run_fetched held first second words u v loop_name matrix_name got long ul vl un vn same1 same2 (l, may_l, is_l) matrix (vs, may_v, are_v) =
-    let whole : take (length words - 4) (drop 4 words) ≡ drop 4 words = all_of (length words - 4) (drop 4 words) (let e = length-drop 4 words in omega (arith, e)) in
-    let m = of_same_file (2 ^ 28) (first matrix_name) (held matrix_name) got.matrix (same1 matrix_name) matrix in
-    let names : texts (drop 4 words) ≡ drop 4 (texts words) = drop_texts 4 words in
-    let all : MayBeAll held (texts (drop 4 words)) vs = subst (λ (ws : List (String Global)). MayBeAll held (texts ws) vs) whole (may_all_same second held (texts (take (length words - 4) (drop 4 words))) vs (λ other. same2 other ∙ same1 other) may_v) in
-    let lens = may_be_lengths held (texts (drop 4 words)) vs all in
+drop_all : (n : ℕ) (vs : List (List ℕ)) → drop n (replicate n [] ++ vs) ≡ vs
+drop_all zero vs = refl
+drop_all (suc n) vs = drop_all n vs
+
+drop_gap : (first : ℕ) (l m : List ℕ) (vs : List (List ℕ)) → 3 ≤ first → drop first ([] ∷ l ∷ m ∷ (replicate (first - 3) [] ++ vs)) ≡ vs
+drop_gap first l m vs apart =
+    let n = first - 3 in
+    let P : ℕ → Type 0 = λ k. drop k ([] ∷ l ∷ m ∷ (replicate n [] ++ vs)) ≡ vs in
+    let here : P (suc (suc (suc n))) = drop_all n vs in
+    let at : suc (suc (suc n)) ≡ first = omega (arith, apart) in
+    subst P at here
+
+pub input_fetched : (held one two : List ℕ → Option (List ℕ)) (words : List (String Global)) (first : ℕ) (loop_name matrix_name : List ℕ) (got : InputBytes)
+    → 3 ≤ first → first ≤ length words → loop_name ≡ word_of (texts words) 1 → matrix_name ≡ word_of (texts words) 2
+    → ((other : List ℕ) → one other ≡ held other) → ((other : List ℕ) → two other ≡ one other)
+    → IsOfFile 65536 (held loop_name) got.loop_file → IsOfFile (2 ^ 28) (one matrix_name) got.matrix → AreOfFiles two (texts (take (length words - first) (drop first words))) got.vectors.items
+    → (files : List (List ℕ)) × IsInputFetched held (texts words) first files got
+input_fetched held one two words first loop_name matrix_name got apart within at1 at2 same1 same2 (l, may_l, is_l) matrix (vs, may_v, are_v) =
+    let whole : take (length words - first) (drop first words) ≡ drop first words = all_of (length words - first) (drop first words) (let e = length-drop first words in omega (arith, e)) in
+    let m = of_same_file (2 ^ 28) (one matrix_name) (held matrix_name) got.matrix (same1 matrix_name) matrix in
+    let names : texts (drop first words) ≡ drop first (texts words) = drop_texts first words in
+    let all : MayBeAll held (texts (drop first words)) vs = subst (λ (ws : List (String Global)). MayBeAll held (texts ws) vs) whole (may_all_same two held (texts (take (length words - first) (drop first words))) vs (λ other. same2 other ∙ same1 other) may_v) in
+    let lens = may_be_lengths held (texts (drop first words)) vs all in
     let len = length-map words string_bytes in
-    let short = length-map (drop 4 words) string_bytes in
-    let dropped = length-drop 4 words in
-    let at1 : loop_name ≡ word_of (texts words) 1 = un ∙ sym (text_at words 1 u (omega (arith, long)) ul) in
-    let at2 : matrix_name ≡ word_of (texts words) 2 = vn ∙ sym (text_at words 2 v (omega (arith, long)) vl) in
-    let P : List ℕ → List ℕ → Type 0 = λ bytes name. MayBe (held name) bytes in (
-      [] ∷ l ∷ m.0 ∷ [] ∷ vs,
+    let short = length-map (drop first words) string_bytes in
+    let dropped = length-drop first words in
+    let P : List ℕ → List ℕ → Type 0 = λ bytes name. MayBe (held name) bytes in
+    let gap : List (List ℕ) = replicate (first - 3) [] in
+    let none : length gap ≡ first - 3 = length-replicate (first - 3) [] in
+    let rest : drop first ([] ∷ l ∷ m.0 ∷ (gap ++ vs)) ≡ vs = drop_gap first l m.0 vs apart in (
+      [] ∷ l ∷ m.0 ∷ (gap ++ vs),
       record {
-        one_each = omega (arith, lens, len, short, dropped, long);
+        one_each = (let joined = length-append gap vs in omega (arith, joined, none, lens, len, short, dropped, within, apart));
         loop_may = subst (P l) at1 may_l;
         matrix_may = subst (P m.0) at2 m.1;
-        vectors_may = subst (λ (ns : List (List ℕ)). MayBeAll held ns vs) names all;
-        loop_is = is_l;
-        matrix_is = m.2;
-        vectors_are = are_v;
+        vectors_may = subst (λ (ns : List (List ℕ)). MayBeAll held ns (drop first ([] ∷ l ∷ m.0 ∷ (gap ++ vs)))) names (subst (λ (fs : List (List ℕ)). MayBeAll held (texts (drop first words)) fs) (sym rest) all);
+        are = record { loop_is = is_l; matrix_is = m.2; vectors_are = subst (λ (fs : List (List ℕ)). AreFetched (2 ^ 28) fs got.vectors.items) (sym rest) are_v };
       },
     )
 
-pub few_vectors : (held : List ℕ → Option (List ℕ)) (words : List (String Global)) (files : List (List ℕ)) (got : RunBytes) → 4 ≤ length (texts words) → IsRunFetched held (texts words) files got → length got.vectors.items + 4 ≡ length words
-few_vectors held words files got long is =
-    let a = fetched_lengths (drop 4 files) got.vectors.items is.vectors_are in
-    let b = length-drop 4 files in
+-- a fault at the name of a vector
+pub vectors_unread : (words : List (String Global)) (first : ℕ) (old mid new : List ℕ → ℕ) (status : Status) → 3 ≤ first → first ≤ length words → ((other : List ℕ) → old other ≤ mid other)
+    → (status ≡ Memory) ⊎ IsFaultFrom first (texts (take (length words - first) (drop first words))) mid new status → (status ≡ Memory) ⊎ IsInputFault first (texts words) old new status
+vectors_unread words first old mid new status apart within before cause = elim cause [
+  | inl want ↦ inl want
+  | inr (at, below, is, rose) ↦
+      let whole : take (length words - first) (drop first words) ≡ drop first words = all_of (length words - first) (drop first words) (let e = length-drop first words in omega (arith, e)) in
+      let names : texts (take (length words - first) (drop first words)) ≡ drop first (texts words) = ap texts whole ∙ drop_texts first words in
+      let name : word_of (texts (take (length words - first) (drop first words))) at ≡ word_of (texts words) (first + at) = ap (λ (l : List (List ℕ)). word_of l at) names ∙ get_or-drop first (texts words) at [] in
+      let P : List ℕ → Type 0 = λ n. Rose (mid n) (new n) in
+      let there : Rose (mid (word_of (texts words) (first + at))) (new (word_of (texts words) (first + at))) = subst P name rose in
+      let len : length (texts (take (length words - first) (drop first words))) ≡ length (drop first (texts words)) = ap length names in
+      let dropped = length-drop first (texts words) in
+      inr (first + at, (omega (arith, below, len, dropped)), inr (inr (omega arith)), is, rose_earlier (old (word_of (texts words) (first + at))) (mid (word_of (texts words) (first + at))) (new (word_of (texts words) (first + at))) (before (word_of (texts words) (first + at))) there)
+]
+
+pub few_vectors : (held : List ℕ → Option (List ℕ)) (words : List (String Global)) (first : ℕ) (files : List (List ℕ)) (got : InputBytes) → first ≤ length words → IsInputFetched held (texts words) first files got → first + length got.vectors.items ≡ length words
+few_vectors held words first files got within is =
+    let a = fetched_lengths (drop first files) got.vectors.items is.are.vectors_are in
+    let b = length-drop first files in
     let c = length-map words string_bytes in
-    omega (arith, a, b, c, is.one_each, long)
+    omega (arith, a, b, c, is.one_each, within)
 
 -- ---- an error that a `?` hands on
 

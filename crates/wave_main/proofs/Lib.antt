@@ -1,7 +1,9 @@
 pub mod WordLaws
 pub mod FileLaws
+pub mod StageLaws
 pub mod EndLaws
 pub mod AnswerLaws
 pub mod AnswerOf
 pub mod MatrixLaws
+pub mod FewLaws
 pub mod RunLaws

@@ -1,148 +1,103 @@
--- Commands are told apart by their first words.
-use Rattle.std.proofs.Common.{ℕ, ◌≡◌, ◌≢◌, ◌≤◌, Bool, true, false, ◌&&◌, ◌||◌, List, [], ◌∷◌, Some, length, refl, sym, ◌∙◌, ap, arith}
+-- The command that words ask for.
+use Rattle.std.proofs.Common.{ℕ, ◌≡◌, inl, inr, ◌≤◌, Bool, true, false, ◌&&◌, if◌then◌else◌, List, [], ◌∷◌, Option, Some, None, length, refl, sym, ◌∙◌, ap, subst, arith}
 use Rattle.std.specs.Prelude.{codes}
 use Rattle.std.specs.Str.{bytes_eq}
 use Rattle.std.proofs.lemmas.Slice.Eq.{bytes_eq-Decides}
 use Rattle.wave_words.specs.declared.slot.Slot.TheVariants as slots
 use Rattle.wave_words.specs.declared.form.Form.{Form}
 use Rattle.wave_words.specs.declared.form.Form.TheVariants as forms
-use Rattle.wave_words.specs.Forms.{fits, has_form}
-use Rattle.wave_words.specs.Words.{IsCommand}
-use Rattle.wave_main.specs.Commands.{Begins, IsRun, IsShow, all_forms, unbuilt}
+use Rattle.wave_words.specs.Forms.{fits, has_form, number}
+use Rattle.wave_words.specs.Words.{asked, IsUsageAt}
+use Rattle.wave_words.proofs.WordLaws.{some_asked, asked_has}
+use Rattle.wave_main.specs.declared.status.Status.{Status}
+use Rattle.wave_main.specs.declared.status.Status.TheVariants.{Usage, NotBuilt}
+use Rattle.wave_main.specs.Commands.{all_forms, unbuilt_word, IsBuilt, RefusesWords}
+use Rattle.wave_main.specs.Files.{word_of}
 
-abbrev first_word : Form → List ℕ
-first_word forms.Run = codes "run"
-first_word forms.DemoGrid = codes "demo"
-first_word forms.DemoLower = codes "demo"
-first_word forms.Plan = codes "plan"
-first_word forms.Replay = codes "replay"
-first_word forms.Check = codes "check"
-first_word forms.Explain = codes "explain"
-first_word forms.Show = codes "show"
+pub same_form : (o : Option Form) (f g : Form) → o ≡ Some f → o ≡ Some g → g ≡ f
+same_form o f g x y = let e : Some g ≡ Some f = sym y ∙ x in cc
 
-first_true : (a b : Bool) → (a && b) ≡ true → a ≡ true
-first_true true b p = refl
-first_true false b p = p
+pub one_form : (ws : List (List ℕ)) (f g : Form) → IsBuilt ws f → IsBuilt ws g → g ≡ f
+one_form ws f g x y = same_form (asked all_forms ws) f g x.asked y.asked
+
+-- words of a command that is built aren't refused
+pub built_stands : (ws : List (List ℕ)) (f : Form) (status : Status) → IsBuilt ws f → ¬ RefusesWords ws status
+built_stands ws f status built x = elim x [
+  | inl (place, usage, is) ↦ usage.refused (some_asked all_forms ws f built.asked)
+  | inr (g, place, asks, word, is) ↦
+      let same : g ≡ f = same_form (asked all_forms ws) f g built.asked asks in
+      let P : Form → Type 0 = λ h. unbuilt_word h ws ≡ Some place in
+      let here : unbuilt_word f ws ≡ Some place = subst P same word in
+      let e : None ≡ Some place = sym built.whole ∙ here in cc
+]
+
+one_place : (ws : List (List ℕ)) (p q : ℕ) → IsUsageAt all_forms ws p → IsUsageAt all_forms ws q → p ≡ q
+one_place ws p q a b =
+    let below : p ≤ q = b.longest p a.within a.begins in
+    let above : q ≤ p = a.longest q b.within b.begins in omega (arith, below, above)
+
+one_some : (o : Option ℕ) (a b : ℕ) → o ≡ Some a → o ≡ Some b → a ≡ b
+one_some o a b x y = let e : Some a ≡ Some b = sym x ∙ y in cc
+
+pub one_word : (ws : List (List ℕ)) (a b : Status) → RefusesWords ws a → RefusesWords ws b → a ≡ b
+one_word ws a b x y = elim x [
+  | inl (p, usage, is) ↦ elim y [
+    | inl (q, other, also) ↦ is ∙ ap Usage (one_place ws p q usage other) ∙ sym also
+    | inr (g, q, asks, word, also) ↦ absurd (usage.refused (some_asked all_forms ws g asks))
+  ]
+  | inr (f, p, asks, word, is) ↦ elim y [
+    | inl (q, other, also) ↦ absurd (other.refused (some_asked all_forms ws f asks))
+    | inr (g, q, ask, second, also) ↦
+        let same : g ≡ f = same_form (asked all_forms ws) f g asks ask in
+        let P : Form → Type 0 = λ h. unbuilt_word h ws ≡ Some q in
+        is ∙ ap NotBuilt (one_some (unbuilt_word f ws) p q word (subst P same second)) ∙ sym also
+  ]
+]
+
+-- ---- the number of words
 
 second_true : (a b : Bool) → (a && b) ≡ true → b ≡ true
 second_true true b p = p
 second_true false b p = absurd cc
 
-same_bytes : (a b : List ℕ) → bytes_eq a b ≡ true → a ≡ b
-same_bytes a b e = (bytes_eq-Decides a b).0 e
+long_run : (ws : List (List ℕ)) → has_form ws forms.Run ≡ true → 4 ≤ length ws
+long_run [] run = absurd cc
+long_run (a ∷ []) run = absurd (let e = second_true (fits slots.Run a) false run in cc)
+long_run (a ∷ b ∷ []) run = absurd (let e = second_true (fits slots.Run a) false run in cc)
+long_run (a ∷ b ∷ c ∷ []) run = absurd (let e = second_true (fits slots.Run a) false run in cc)
+long_run (a ∷ b ∷ c ∷ d ∷ ws) run = omega arith
 
-begins_with : (ws : List (List ℕ)) (f : Form) → has_form ws f ≡ true → Begins ws (first_word f)
-begins_with [] forms.Run e = absurd cc
-begins_with [] forms.DemoGrid e = absurd cc
-begins_with [] forms.DemoLower e = absurd cc
-begins_with [] forms.Plan e = absurd cc
-begins_with [] forms.Replay e = absurd cc
-begins_with [] forms.Check e = absurd cc
-begins_with [] forms.Explain e = absurd cc
-begins_with [] forms.Show e = absurd cc
-begins_with (w ∷ ws) forms.Run e = ap Some (same_bytes w (codes "run") (first_true _ _ e))
-begins_with (w ∷ ws) forms.DemoGrid e = ap Some (same_bytes w (codes "demo") (first_true _ _ e))
-begins_with (w ∷ ws) forms.DemoLower e = ap Some (same_bytes w (codes "demo") (first_true _ _ e))
-begins_with (w ∷ ws) forms.Plan e = ap Some (same_bytes w (codes "plan") (first_true _ _ e))
-begins_with (w ∷ ws) forms.Replay e = ap Some (same_bytes w (codes "replay") (first_true _ _ e))
-begins_with (w ∷ ws) forms.Check e = ap Some (same_bytes w (codes "check") (first_true _ _ e))
-begins_with (w ∷ ws) forms.Explain e = ap Some (same_bytes w (codes "explain") (first_true _ _ e))
-begins_with (w ∷ ws) forms.Show e = ap Some (same_bytes w (codes "show") (first_true _ _ e))
+long_check : (ws : List (List ℕ)) → has_form ws forms.Check ≡ true → 3 ≤ length ws
+long_check [] check = absurd cc
+long_check (a ∷ []) check = absurd (let e = second_true (fits slots.Check a) false check in cc)
+long_check (a ∷ b ∷ []) check = absurd (let e = second_true (fits slots.Check a) false check in cc)
+long_check (a ∷ b ∷ c ∷ ws) check = omega arith
 
-pub run_begins : (ws : List (List ℕ)) → IsRun ws → Begins ws (codes "run")
-run_begins ws run = begins_with ws forms.Run run
+two_shown : (ws : List (List ℕ)) → has_form ws forms.Show ≡ true → length ws ≡ 2
+two_shown [] show = absurd cc
+two_shown (a ∷ []) show = absurd (let e = second_true (fits slots.Show a) false show in cc)
+two_shown (a ∷ b ∷ []) show = refl
+two_shown (a ∷ b ∷ c ∷ ws) show = absurd (let e = second_true (fits slots.Show a) false show in cc)
 
-pub show_begins : (ws : List (List ℕ)) → IsShow ws → Begins ws (codes "show")
-show_begins ws show = begins_with ws forms.Show show
+pub run_length : (ws : List (List ℕ)) → IsBuilt ws forms.Run → 4 ≤ length ws
+run_length ws built = long_run ws (asked_has all_forms ws forms.Run built.asked)
 
-pub run_not_show : (ws : List (List ℕ)) → IsRun ws → ¬ IsShow ws
-run_not_show ws run show = let a = run_begins ws run in let b = show_begins ws show in cc
+pub check_length : (ws : List (List ℕ)) → IsBuilt ws forms.Check → 3 ≤ length ws
+check_length ws built = long_check ws (asked_has all_forms ws forms.Check built.asked)
 
-by_or : (P : Type 0) (a b : Bool) → (a || b) ≡ true → (a ≡ true → P) → (b ≡ true → P) → P
-by_or P true b h f g = f refl
-by_or P false b h f g = g h
+pub show_length : (ws : List (List ℕ)) → IsBuilt ws forms.Show → length ws ≡ 2
+show_length ws built = two_shown ws (asked_has all_forms ws forms.Show built.asked)
 
-other_than : (ws : List (List ℕ)) (first : List ℕ) (f : Form) → first_word f ≢ first → has_form ws f ≡ true → ¬ Begins ws first
-other_than ws first f differs e begins =
-    let own : Some (first_word f) ≡ Some first = sym (begins_with ws f e) ∙ begins in differs cc
+-- ---- the number of workers
 
--- what isn't built begins with another word
-unbuilt_other : (ws : List (List ℕ)) (first : List ℕ) → codes "demo" ≢ first → codes "plan" ≢ first → codes "replay" ≢ first → codes "check" ≢ first → codes "explain" ≢ first
-    → IsCommand unbuilt ws → ¬ Begins ws first
-unbuilt_other ws first a b c d e command begins =
-    by_or ⊥ (has_form ws forms.DemoGrid) _ command (λ h. other_than ws first forms.DemoGrid a h begins) (λ command.
-    by_or ⊥ (has_form ws forms.DemoLower) _ command (λ h. other_than ws first forms.DemoLower a h begins) (λ command.
-    by_or ⊥ (has_form ws forms.Plan) _ command (λ h. other_than ws first forms.Plan b h begins) (λ command.
-    by_or ⊥ (has_form ws forms.Replay) _ command (λ h. other_than ws first forms.Replay c h begins) (λ command.
-    by_or ⊥ (has_form ws forms.Check) _ command (λ h. other_than ws first forms.Check d h begins) (λ command.
-    by_or ⊥ (has_form ws forms.Explain) false command (λ h. other_than ws first forms.Explain e h begins) (λ h. absurd cc))))))
+one_by : (b : Bool) (n : ℕ) → (if b then None else Some n) ≡ None → b ≡ true
+one_by true n e = refl
+one_by false n e = absurd cc
 
-abbrev head : List ℕ → ℕ
-head [] = 0
-head (b ∷ bs) = b
-
-pub unbuilt_not_run : (ws : List (List ℕ)) → IsCommand unbuilt ws → ¬ IsRun ws
-unbuilt_not_run ws command run = unbuilt_other ws (codes "run") (λ e. cc) (λ e. cc) (λ e. cc) (λ e. cc) (λ e. cc) command (run_begins ws run)
-
-pub unbuilt_not_show : (ws : List (List ℕ)) → IsCommand unbuilt ws → ¬ IsShow ws
-unbuilt_not_show ws command show =
-    unbuilt_other ws (codes "show") (λ e. omega (arith, ap head e)) (λ e. omega (arith, ap head e)) (λ e. omega (arith, ap head e)) (λ e. omega (arith, ap head e)) (λ e. omega (arith, ap head e)) command (show_begins ws show)
-
-left_true : (a b : Bool) → a ≡ true → (a || b) ≡ true
-left_true true b p = refl
-left_true false b p = absurd cc
-
-right_true : (a b : Bool) → b ≡ true → (a || b) ≡ true
-right_true true b p = refl
-right_true false b p = p
-
-pub run_is_command : (ws : List (List ℕ)) → IsRun ws → IsCommand all_forms ws
-run_is_command ws run = left_true (has_form ws forms.Run) _ run
-
-pub show_is_command : (ws : List (List ℕ)) → IsShow ws → IsCommand all_forms ws
-show_is_command ws show =
-    right_true (has_form ws forms.Run) _ (right_true (has_form ws forms.DemoGrid) _ (right_true (has_form ws forms.DemoLower) _ (right_true (has_form ws forms.Plan) _ (right_true (has_form ws forms.Replay) _ (right_true (has_form ws forms.Check) _ (right_true (has_form ws forms.Explain) _ (left_true (has_form ws forms.Show) false show)))))))
-
-unbuilt_more : (a b c d e f s : Bool) → (a || (b || (c || (d || (e || (f || false)))))) ≡ true → (a || (b || (c || (d || (e || (f || (s || false))))))) ≡ true
-unbuilt_more true b c d e f s h = refl
-unbuilt_more false true c d e f s h = refl
-unbuilt_more false false true d e f s h = refl
-unbuilt_more false false false true e f s h = refl
-unbuilt_more false false false false true f s h = refl
-unbuilt_more false false false false false true s h = refl
-unbuilt_more false false false false false false s h = absurd cc
-
-pub unbuilt_is_command : (ws : List (List ℕ)) → IsCommand unbuilt ws → IsCommand all_forms ws
-unbuilt_is_command ws command = right_true (has_form ws forms.Run) _ (unbuilt_more (has_form ws forms.DemoGrid) (has_form ws forms.DemoLower) (has_form ws forms.Plan) (has_form ws forms.Replay) (has_form ws forms.Check) (has_form ws forms.Explain) (has_form ws forms.Show) command)
-
-others_left : (r a b c d e f s : Bool) → (r || (a || (b || (c || (d || (e || (f || (s || false)))))))) ≡ true → r ≡ false → s ≡ false → (a || (b || (c || (d || (e || (f || false)))))) ≡ true
-others_left true a b c d e f s h x y = absurd cc
-others_left false true b c d e f s h x y = refl
-others_left false false true c d e f s h x y = refl
-others_left false false false true d e f s h x y = refl
-others_left false false false false true e f s h x y = refl
-others_left false false false false false true f s h x y = refl
-others_left false false false false false false true s h x y = refl
-others_left false false false false false false false true h x y = absurd cc
-others_left false false false false false false false false h x y = absurd cc
-
--- a command that is neither `run` nor `show` isn't built
-pub others_unbuilt : (ws : List (List ℕ)) → IsCommand all_forms ws → has_form ws forms.Run ≡ false → has_form ws forms.Show ≡ false → IsCommand unbuilt ws
-others_unbuilt ws command not_run not_show = others_left (has_form ws forms.Run) (has_form ws forms.DemoGrid) (has_form ws forms.DemoLower) (has_form ws forms.Plan) (has_form ws forms.Replay) (has_form ws forms.Check) (has_form ws forms.Explain) (has_form ws forms.Show) command not_run not_show
-
--- the number of words
-pub show_length : (ws : List (List ℕ)) → IsShow ws → length ws ≡ 2
-show_length [] show = absurd cc
-show_length (a ∷ []) show = absurd (let e = second_true (fits slots.Show a) false show in cc)
-show_length (a ∷ b ∷ []) show = refl
-show_length (a ∷ b ∷ c ∷ ws) show = absurd (let e = second_true (fits slots.Show a) false show in cc)
-
-pub run_length : (ws : List (List ℕ)) → IsRun ws → 4 ≤ length ws
-run_length [] run = absurd cc
-run_length (a ∷ []) run = absurd (let e = second_true (fits slots.Run a) false run in cc)
-run_length (a ∷ b ∷ []) run = absurd (let e = second_true (fits slots.Run a) false run in cc)
-run_length (a ∷ b ∷ c ∷ []) run = absurd (let e = second_true (fits slots.Run a) false run in cc)
-run_length (a ∷ b ∷ c ∷ d ∷ ws) run = omega arith
+pub one_worker : (ws : List (List ℕ)) → IsBuilt ws forms.Run → number (word_of ws 3) ≡ Some 1
+one_worker ws built =
+    let one : word_of ws 3 ≡ codes "1" = (bytes_eq-Decides (word_of ws 3) (codes "1")).0 (one_by (bytes_eq (word_of ws 3) (codes "1")) 3 built.whole) in
+    ap number one
 
 pub not_true : (b : Bool) → b ≡ false → b ≡ true → ⊥
 not_true true e t = cc

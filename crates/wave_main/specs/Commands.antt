@@ -1,81 +1,105 @@
--- What the commands print and refuse.
-use Rattle.std.specs.Prelude.{◌≡◌, ◌⊎◌, ℕ, ◌<◌, ◌≤◌, List, [], ◌∷◌, IsTrue, length, Some, slice_get, codes}
-use Rattle.loop_core.specs.declared.nest.Nest.{Nest}
-use Rattle.loop_print.specs.PrintText.{nest_text}
+-- What the commands print and refuse. Each case of a form is a command.
+use Rattle.std.specs.Prelude.{◌≡◌, ◌⊎◌, ℕ, ◌<◌, ◌≤◌, List, [], ◌∷◌, if◌then◌else◌, length, drop, Option, Some, None, codes}
+use Rattle.std.specs.Str.{bytes_eq}
 use Rattle.wave_words.specs.declared.form.Form.{Form}
 use Rattle.wave_words.specs.declared.form.Form.TheVariants as forms
-use Rattle.wave_words.specs.Forms.{has_form}
-use Rattle.wave_words.specs.Words.{IsCommand, IsUsageAt}
-use Rattle.wave_main.specs.declared.words.Command.{Command}
-use Rattle.wave_main.specs.declared.words.Command.TheVariants as commands
+use Rattle.wave_words.specs.Words.{asked, IsUsageAt}
+use Rattle.wave_main.specs.declared.commands.Command.{Command}
+use Rattle.wave_main.specs.declared.commands.Command.TheVariants as commands
 use Rattle.wave_main.specs.declared.status.Status.{Status}
 use Rattle.wave_main.specs.declared.status.Status.TheVariants.{Usage, NotBuilt}
-use Rattle.wave_main.specs.Files.{word_of}
-use Rattle.wave_main.specs.Loops.{IsLoop, loop_fault}
-use Rattle.wave_main.specs.Run.{RunPrints, run_fault, vector_files}
-
--- the commands of the quiet call, and those of the whole program
-abbrev pub quiet_forms : List Form
-quiet_forms = forms.Plan ∷ forms.Replay ∷ forms.Check ∷ forms.Explain ∷ forms.Show ∷ []
+use Rattle.wave_main.specs.Files.{Inputs, word_of}
+use Rattle.wave_main.specs.Run.{RunPrints}
+use Rattle.wave_main.specs.Stages.{Stage, OfLoop, AcceptAll, IsRefusedBy, input_stages}
+use Rattle.wave_main.specs.Texts.{CheckPrints, ShowPrints}
 
 abbrev pub all_forms : List Form
-all_forms = forms.Run ∷ forms.DemoGrid ∷ forms.DemoLower ∷ quiet_forms
+all_forms = forms.Run ∷ forms.DemoGrid ∷ forms.DemoLower ∷ forms.Plan ∷ forms.Replay ∷ forms.Check ∷ forms.Explain ∷ forms.Show ∷ []
 
--- the commands that aren't built yet
-abbrev pub quiet_unbuilt : List Form
-quiet_unbuilt = forms.Plan ∷ forms.Replay ∷ forms.Check ∷ forms.Explain ∷ []
+-- the place of the word that asks for what isn't built yet: so far a run has one worker
+abbrev pub unbuilt_word : Form → List (List ℕ) → Option ℕ
+unbuilt_word forms.Run words = if bytes_eq (word_of words 3) (codes "1") then None else Some 3
+unbuilt_word forms.Check words = None
+unbuilt_word forms.Show words = None
+unbuilt_word _ words = Some 0
 
-abbrev pub unbuilt : List Form
-unbuilt = forms.DemoGrid ∷ forms.DemoLower ∷ quiet_unbuilt
+-- the place of the first FILE; the words before it that name files are 1, the loop, and 2, the matrix
+abbrev pub first_file : Form → ℕ
+first_file forms.Run = 4
+first_file forms.Check = 3
+first_file _ = 2
 
-abbrev pub IsRun : List (List ℕ) → Type 0
-IsRun words = IsTrue (has_form words forms.Run)
+-- the stages at which the files of the command may be refused
+abbrev pub stages : Form → List Stage
+stages forms.Run = input_stages
+stages forms.Check = input_stages
+stages forms.Show = OfLoop ∷ []
+stages _ = []
 
-abbrev pub IsShow : List (List ℕ) → Type 0
-IsShow words = IsTrue (has_form words forms.Show)
+-- what the command prints of these words and files
+abbrev pub IsText : Form → List (List ℕ) → Inputs → List ℕ → Type 0
+IsText forms.Run words files text = RunPrints words files text
+IsText forms.Check words files text = CheckPrints files text
+IsText forms.Show words files text = ShowPrints files text
+IsText _ words files text = ⊥
 
--- so far a run has one worker
-abbrev pub HasOneWorker : List (List ℕ) → Type 0
-HasOneWorker words = slice_get words 3 ≡ Some (codes "1")
+-- the words ask for this command, and all that they ask for is built
+pub record IsBuilt (words : List (List ℕ)) (form : Form) : Type 0 where
+  pub asked : asked all_forms words ≡ Some form
+  pub whole : unbuilt_word form words ≡ None
 
-pub record IsBuiltRun (words : List (List ℕ)) : Type 0 where
-  pub run : IsRun words
-  pub one_worker : HasOneWorker words
+-- the form of a command that was read from words, and the places that it carries
+abbrev pub form_of : Command → Form
+form_of (commands.Run first) = forms.Run
+form_of (commands.Check first) = forms.Check
+form_of commands.Show = forms.Show
 
--- the words of a command that is built
-abbrev pub IsBuilt : List (List ℕ) → Command → Type 0
-IsBuilt words commands.Run = IsBuiltRun words
-IsBuilt words commands.Show = IsShow words
+abbrev pub HasPlaces : Command → Type 0
+HasPlaces (commands.Run first) = first ≡ first_file forms.Run
+HasPlaces (commands.Check first) = first ≡ first_file forms.Check
+HasPlaces commands.Show = Unit {0}
+
+pub record IsCommand (words : List (List ℕ)) (command : Command) : Type 0 where
+  pub built : IsBuilt words (form_of command)
+  pub places : HasPlaces command
+
+-- the files of a command, of bytes for each word
+abbrev pub inputs_of : Form → List (List ℕ) → Inputs
+inputs_of form files = record {
+  loop_file = word_of files 1;
+  matrix = word_of files 2;
+  vectors = drop (first_file form) files;
+  first = first_file form;
+}
 
 -- the places of the words that name files
 abbrev pub IsFilePlace : List (List ℕ) → ℕ → Type 0
 IsFilePlace words place =
-    (IsBuiltRun words × ((place ≡ 1) ⊎ (place ≡ 2) ⊎ ((4 ≤ place) × (place < length words))))
-    ⊎ (IsShow words × (place ≡ 1))
+    (form : Form) × IsBuilt words form × (place < length words) × ((place ≡ 1) ⊎ (place ≡ 2) ⊎ (first_file form ≤ place))
 
 -- the words of a command with these files, one list for each word, and the text that it prints
 abbrev pub Prints : List (List ℕ) → List (List ℕ) → List ℕ → Type 0
 Prints words files text =
-    (IsBuiltRun words × RunPrints (word_of files 1) (word_of files 2) (vector_files files) text)
-    ⊎ (IsShow words × ((nest : Nest) × IsLoop (word_of files 1) nest × (text ≡ nest_text nest)))
+    (form : Form) × IsBuilt words form × AcceptAll (stages form) (inputs_of form files) × IsText form words (inputs_of form files) text
 
--- words that are no command's, or those of what isn't built yet
+-- words that are no command's, or ask for what isn't built yet
 abbrev pub RefusesWords : List (List ℕ) → Status → Type 0
 RefusesWords words status =
     ((place : ℕ) × IsUsageAt all_forms words place × (status ≡ Usage place))
-    ⊎ (IsCommand unbuilt words × (status ≡ NotBuilt 0))
-    ⊎ (IsRun words × (¬ HasOneWorker words) × (status ≡ NotBuilt 3))
+    ⊎ ((form : Form) × (place : ℕ) × (asked all_forms words ≡ Some form) × (unbuilt_word form words ≡ Some place) × (status ≡ NotBuilt place))
+
+abbrev pub AreRefused : List (List ℕ) → Type 0
+AreRefused words = (status : Status) × RefusesWords words status
 
 -- words or files call for this refusal, and for none before it
 abbrev pub Refuses : List (List ℕ) → List (List ℕ) → Status → Type 0
 Refuses words files status =
     RefusesWords words status
-    ⊎ (IsBuiltRun words × (run_fault files ≡ Some status))
-    ⊎ (IsShow words × (loop_fault (word_of files 1) ≡ Some status))
+    ⊎ ((form : Form) × IsBuilt words form × IsRefusedBy (stages form) (inputs_of form files) status)
 
 -- the first word is this one
 abbrev pub Begins : List (List ℕ) → List ℕ → Type 0
-Begins words first = slice_get words 0 ≡ Some first
+Begins words first = word_of words 0 ≡ first
 
 -- words that the quiet call doesn't serve
 abbrev pub IsOthers : List (List ℕ) → Type 0

@@ -5,7 +5,11 @@ pub mod Files
 pub mod Fetching
 pub mod Loops
 pub mod Matrices
+pub mod Binding
+pub mod Stages
 pub mod Run
+pub mod Texts
 pub mod Commands
 pub mod Answers
+pub mod Making
 pub mod Calls

@@ -13,7 +13,7 @@ use Rattle.wave_main.specs.declared.status.MtxFault.TheVariants as faults
 use Rattle.wave_main.specs.declared.status.ShapeKind.{ShapeKind}
 use Rattle.wave_main.specs.declared.status.ShapeKind.TheVariants as shapes
 use Rattle.wave_main.specs.declared.status.Status.{Status}
-use Rattle.wave_main.specs.declared.status.Status.TheVariants.{Done, Usage, ReadFault, LoopText, LoopName, LoopLimit, MatrixText, Shape, NotBuilt, WriteFault, Memory}
+use Rattle.wave_main.specs.declared.status.Status.TheVariants.{Done, Usage, ReadFault, LoopText, LoopName, LoopLimit, MatrixText, Shape, Property, NotBuilt, WriteFault, Memory}
 
 abbrev pub code_of : Status → ℕ
 code_of Done = 0
@@ -25,6 +25,7 @@ code_of (ReadFault word) = 7
 code_of WriteFault = 8
 code_of (MatrixText word cause) = 9
 code_of (Shape kind) = 10
+code_of (Property property first second) = 11
 code_of Memory = 12
 code_of (NotBuilt word) = 13
 
@@ -52,6 +53,7 @@ limit_word limits.Length = codes "length"
 limit_word limits.Lines = codes "lines"
 limit_word limits.Constant = codes "constant"
 limit_word limits.Arrays = codes "arrays"
+limit_word limits.Locals = codes "locals"
 limit_word limits.Depth = codes "depth"
 limit_word limits.References = codes "references"
 limit_word limits.Atoms = codes "atoms"
@@ -94,6 +96,7 @@ fault_words (LoopName n kind) = codes "loop" ∷ codes "name" ∷ codes "line" �
 fault_words (LoopLimit n kind) = codes "loop" ∷ codes "limit" ∷ codes "line" ∷ decimal n ∷ limit_word kind ∷ []
 fault_words (MatrixText word cause) = matrix_words word cause
 fault_words (Shape kind) = shape_words kind
+fault_words (Property property first second) = codes "property" ∷ decimal property ∷ codes "first" ∷ decimal first ∷ codes "second" ∷ decimal second ∷ []
 fault_words (NotBuilt word) = codes "not" ∷ codes "built" ∷ codes "word" ∷ decimal word ∷ []
 fault_words WriteFault = codes "write" ∷ []
 fault_words Memory = codes "memory" ∷ []

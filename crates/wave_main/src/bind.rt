@@ -4,7 +4,7 @@ ghost use Rattle.std.specs.List.{All};
 ghost use Rattle.loop_core.specs.Sizes.{sizes};
 ghost use Rattle.array_bind.specs.Lists.{bound_of};
 ghost use Rattle.array_bind.specs.Shape.{file_of};
-ghost use Rattle.wave_main.specs.Run.{shape_status, binding_fault};
+ghost use Rattle.wave_main.specs.Binding.{shape_status, binding_fault};
 
 use crate::status::{ShapeKind, Status};
 use array_bind::bind::{Bound, bind};
@@ -14,10 +14,10 @@ use mtx_read::triples::Triples;
 use std::alloc::Global;
 use wave_base::words::Words;
 
-/// File k is named by word k + 4.
-fn shape_status(refusal: ShapeRefusal) -> Status
-    requires { file_of refusal + 4 < 2 ^ 32 }
-    ensures { result ≡ shape_status refusal }
+/// File k is named by the word `first + k`.
+fn shape_status(first: u32, refusal: ShapeRefusal) -> Status
+    requires { first + file_of refusal < 2 ^ 32 }
+    ensures { result ≡ shape_status first refusal }
 {
     match refusal {
         ShapeRefusal::NotSquare { rows, columns } => {
@@ -25,7 +25,7 @@ fn shape_status(refusal: ShapeRefusal) -> Status
         }
         ShapeRefusal::Files { have, want } => Status::Shape(ShapeKind::Files { have, want }),
         ShapeRefusal::Length { file, have, want } => Status::Shape(ShapeKind::Length {
-            word: file + 4,
+            word: first + file,
             have,
             want,
         }),
@@ -33,23 +33,24 @@ fn shape_status(refusal: ShapeRefusal) -> Status
     }
 }
 
-/// The arrays of a loop over a matrix and vectors.
+/// The arrays of a loop over a matrix and vectors, of which the first is named by a word.
 pub fn bound(
     alloc: Global,
     nest: &Nest,
     matrix: Triples,
     vectors: Vec<Words>,
+    first: u32,
 ) -> Result<Bound, Status>
     requires few_arrays { length (sizes nest.now.decls) ≤ 64 }
     requires few { length matrix.entries ≤ 2 ^ 24 }
     requires inside { All (λ e. (e.0 < matrix.rows) × (e.1 < matrix.columns)) matrix.entries }
-    requires few_files { length vectors.items + 4 < 2 ^ 32 }
+    requires few_files { first + length vectors.items < 2 ^ 32 }
     ensures { MatchResult result
-        (λ b. (binding_fault nest.now.decls (matrix.rows, matrix.columns, matrix.entries) vectors.items ≡ None) × (b ≡ bound_of nest.now.decls matrix.rows matrix.entries vectors.items))
-        (λ status. (status ≡ Status.Memory) ⊎ (binding_fault nest.now.decls (matrix.rows, matrix.columns, matrix.entries) vectors.items ≡ Some status)) }
+        (λ b. (binding_fault first nest.now.decls (matrix.rows, matrix.columns, matrix.entries) vectors.items ≡ None) × (b ≡ bound_of nest.now.decls matrix.rows matrix.entries vectors.items))
+        (λ status. (status ≡ Status.Memory) ⊎ (binding_fault first nest.now.decls (matrix.rows, matrix.columns, matrix.entries) vectors.items ≡ Some status)) }
 {
     match bind(alloc, nest, matrix, vectors) {
         Ok(bound) => Ok(bound),
-        Err(refusal) => Err(shape_status(refusal)),
+        Err(refusal) => Err(shape_status(first, refusal)),
     }
 }

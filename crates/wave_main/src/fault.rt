@@ -29,6 +29,7 @@ fn limit_word(kind: LimitKind) -> &'static str
         LimitKind::Lines => "lines",
         LimitKind::Constant => "constant",
         LimitKind::Arrays => "arrays",
+        LimitKind::Locals => "locals",
         LimitKind::Depth => "depth",
         LimitKind::References => "references",
         LimitKind::Atoms => "atoms",
@@ -141,6 +142,19 @@ fn shape_line(kind: ShapeKind) -> ArrayString<ROOM>
     }
 }
 
+fn property_line(property: u32, first: u64, second: u64) -> ArrayString<ROOM>
+    ensures { result.bytes ≡ fault_line (Status.Property property first second) }
+{
+    line_of(&[
+        Piece::Text("property"),
+        Piece::Number(property as u64),
+        Piece::Text("first"),
+        Piece::Number(first),
+        Piece::Text("second"),
+        Piece::Number(second),
+    ])
+}
+
 /// The line that says why a call ended, which is empty after `Done`. It takes no memory.
 pub fn fault_line(status: Status) -> ArrayString<ROOM>
     ensures { result.bytes ≡ fault_line status }
@@ -158,6 +172,11 @@ pub fn fault_line(status: Status) -> ArrayString<ROOM>
         }
         Status::MatrixText { word, cause } => matrix_line(word, cause),
         Status::Shape(kind) => shape_line(kind),
+        Status::Property {
+            property,
+            first,
+            second,
+        } => property_line(property, first, second),
         Status::NotBuilt { word } => one("not built word", word as u64),
         Status::WriteFault => line_of(&[Piece::Text("write")]),
         Status::Memory => line_of(&[Piece::Text("memory")]),

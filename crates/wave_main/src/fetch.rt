@@ -3,9 +3,10 @@ ghost use Rattle.std.specs.Prelude.{◌≡◌, ℕ, List, ◌+◌, ◌<◌, ◌�
 ghost use Rattle.wave_io.specs.Faults.{Rose};
 ghost use Rattle.wave_words.specs.Words.{texts};
 ghost use Rattle.wave_main.specs.Files.{IsOfFile, AreOfFiles, word_of};
-ghost use Rattle.wave_main.specs.Fetching.{IsFaultFrom, IsRunFault, IsRunFetched};
+ghost use Rattle.wave_main.specs.Fetching.{IsFaultFrom, IsInputFault, IsInputFetched};
 
 use crate::status::Status;
+use crate::words::word_at;
 use std::alloc::Global;
 use wave_io::library::Library;
 use wave_io::read_all::{ReadCause, read_all};
@@ -62,45 +63,52 @@ fn fetch_vectors<L: Library>(
     Ok(files)
 }
 
-/// The bytes of the files of a run; `None` where a file has more than its limit.
+/// The bytes of the files of a loop with its arrays; `None` where a file has more than its limit.
 #[derive(Drop)]
-pub struct RunBytes {
+pub struct InputBytes {
     pub loop_file: Option<Vec<u8>>,
     pub matrix: Option<Vec<u8>>,
     pub vectors: Vec<Option<Vec<u8>>>,
 }
 
-/// Fetches the files of a run in the order of its words, up to the first fault.
-pub fn fetch_run<L: Library>(
+/// Fetches the loop, the matrix and the vectors, which begin at the word `first`, in the order of
+/// their words and up to the first fault.
+pub fn fetch_inputs<L: Library>(
     alloc: Global,
     lib: &mut L,
     words: &[String],
-) -> Result<RunBytes, Status>
-    requires long { 4 ≤ length words.now }
+    first: u32,
+) -> Result<InputBytes, Status>
+    requires apart { 3 ≤ first }
+    requires within { first ≤ length words.now }
     requires few { length words.now < 2 ^ 32 }
-    ensures fetched { IfOk result (λ got. (files : List (List ℕ)) × IsRunFetched (L.held lib.old) (texts words.now) files got) }
-    ensures fault { IfErr result (λ status. (status ≡ Status.Memory) ⊎ IsRunFault (texts words.now) (L.faults lib.old) (L.faults lib.new) status) }
+    ensures fetched { IfOk result (λ got. (files : List (List ℕ)) × IsInputFetched (L.held lib.old) (texts words.now) first files got) }
+    ensures few { IfOk result (λ got. first + length got.vectors.items < 2 ^ 32) }
+    ensures fault { IfErr result (λ status. (status ≡ Status.Memory) ⊎ IsInputFault first (texts words.now) (L.faults lib.old) (L.faults lib.new) status) }
+    ensures never_fall { (other : List ℕ) → L.faults lib.old other ≤ L.faults lib.new other }
+    ensures stays { (other : List ℕ) → L.held lib.new other ≡ L.held lib.old other }
 {
-    let loop_file = fetch_file(alloc, lib, words[1].as_str(), 1, LOOP_LIMIT)?;
-    let matrix = fetch_file(alloc, lib, words[2].as_str(), 2, FILE_LIMIT)?;
-    let vectors = fetch_vectors(alloc, lib, &words[4..], 4)?;
-    Ok(RunBytes {
+    let loop_file = fetch_loop(alloc, lib, words)?;
+    let matrix = fetch_file(alloc, lib, word_at(words, 2), 2, FILE_LIMIT)?;
+    let vectors = fetch_vectors(alloc, lib, &words[first as usize..], first)?;
+    Ok(InputBytes {
         loop_file,
         matrix,
         vectors,
     })
 }
 
-/// Fetches the file of `show`.
+/// Fetches the loop file.
 pub fn fetch_loop<L: Library>(
     alloc: Global,
     lib: &mut L,
     words: &[String],
 ) -> Result<Option<Vec<u8>>, Status>
-    requires { length words.now ≡ 2 }
     ensures file { IfOk result (λ file. IsOfFile 65536 (L.held lib.old (word_of (texts words.now) 1)) file) }
     ensures fault { IfErr result (λ status. (status ≡ Status.Memory) ⊎
         ((status ≡ Status.ReadFault 1) × Rose (L.faults lib.old (word_of (texts words.now) 1)) (L.faults lib.new (word_of (texts words.now) 1)))) }
+    ensures never_fall { (other : List ℕ) → L.faults lib.old other ≤ L.faults lib.new other }
+    ensures stays { (other : List ℕ) → L.held lib.new other ≡ L.held lib.old other }
 {
-    fetch_file(alloc, lib, words[1].as_str(), 1, LOOP_LIMIT)
+    fetch_file(alloc, lib, word_at(words, 1), 1, LOOP_LIMIT)
 }

@@ -2,8 +2,12 @@
 #![tactic(auto)]
 
 mod bind;
+mod check;
+mod commands;
 mod fault;
 mod fetch;
+mod input;
+pub mod laws;
 mod line;
 mod loops;
 mod matrices;

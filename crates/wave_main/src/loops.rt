@@ -1,10 +1,10 @@
 // The loop of a file.
-ghost use Rattle.std.specs.Prelude.{◌≡◌, ◌⊎◌, ◌≤◌, ℕ, List, None, Some, MatchResult, IfOk, length};
+ghost use Rattle.std.specs.Prelude.{◌≡◌, ◌⊎◌, ◌≤◌, ◌<◌, ◌^◌, ℕ, List, MatchResult, IfOk, length};
 ghost use Rattle.loop_core.specs.Depth.{body_depth};
 ghost use Rattle.loop_core.specs.Sizes.{sizes};
 ghost use Rattle.loop_lines.specs.Plain.{HasNames};
 ghost use Rattle.wave_main.specs.Files.{IsFetched};
-ghost use Rattle.wave_main.specs.Loops.{loop_status, loop_fault, IsLoop};
+ghost use Rattle.wave_main.specs.Loops.{loop_status, IsLoop, IsLoopFault};
 
 use crate::status::Status;
 use loop_core::nest::Nest;
@@ -34,10 +34,11 @@ fn too_long() -> Status
 
 /// The loop of a file that was fetched; a file that is too long passes a limit.
 pub fn read_loop(alloc: Global, file: Option<Vec<u8>>) -> Result<Nest, Status>
-    ensures answer { (bytes : List ℕ) → IsFetched 65536 bytes file → MatchResult result (IsLoop bytes) (λ status. (status ≡ Status.Memory) ⊎ (loop_fault bytes ≡ Some status)) }
+    ensures answer { (bytes : List ℕ) → IsFetched 65536 bytes file → MatchResult result (IsLoop bytes) (λ status. (status ≡ Status.Memory) ⊎ IsLoopFault bytes status) }
     ensures names { IfOk result HasNames }
     ensures shallow { IfOk result (λ nest. body_depth nest.body ≤ 5) }
     ensures few { IfOk result (λ nest. length (sizes nest.decls) ≤ 64) }
+    ensures few_properties { IfOk result (λ nest. length nest.props < 2 ^ 32) }
 {
     let Some(bytes) = file else {
         return Err(too_long());

@@ -1,5 +1,5 @@
 // The fault line on standard error.
-ghost use Rattle.std.specs.Prelude.{◌≡◌};
+ghost use Rattle.std.specs.Prelude.{◌≡◌, ◌≤◌};
 ghost use Rattle.wave_main.specs.Answers.{SaysWhy};
 
 use crate::fault::fault_line;
@@ -12,6 +12,7 @@ use wave_io::sink::Sink;
 pub fn report<E: Sink>(err: &mut E, status: Status)
     ensures says { SaysWhy status (E.written err.old) (E.written err.new) (E.faults err.old) (E.faults err.new) }
     ensures silent { status ≡ Status.Done → E.written err.new ≡ E.written err.old }
+    ensures never_falls { E.faults err.old ≤ E.faults err.new }
 {
     if status == Status::Done {
         return;

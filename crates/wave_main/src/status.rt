@@ -43,21 +43,45 @@ pub enum Status {
     /// The text was put whole.
     Done,
     /// The words are no command's; the place is that of the first wrong or missing word.
-    Usage { word: u32 },
+    Usage {
+        word: u32,
+    },
     /// The file named by a word couldn't be read.
-    ReadFault { word: u32 },
+    ReadFault {
+        word: u32,
+    },
     /// The least line of the loop file that has no form of the language or doesn't fit.
-    LoopText { line: u32 },
+    LoopText {
+        line: u32,
+    },
     /// The first name of the loop file that breaks a rule.
-    LoopName { line: u32, kind: NameKind },
+    LoopName {
+        line: u32,
+        kind: NameKind,
+    },
     /// The first count of the loop file that passes its limit; line 0 stands for the whole file.
-    LoopLimit { line: u32, kind: LimitKind },
+    LoopLimit {
+        line: u32,
+        kind: LimitKind,
+    },
     /// The first file that is no matrix or vector.
-    MatrixText { word: u32, cause: MtxFault },
+    MatrixText {
+        word: u32,
+        cause: MtxFault,
+    },
     /// The shapes of the files don't fit the loop.
     Shape(ShapeKind),
+    /// The first declared property, counted from 1, that the arrays break, and the two places that
+    /// show it.
+    Property {
+        property: u32,
+        first: u64,
+        second: u64,
+    },
     /// The word asks for what isn't built yet.
-    NotBuilt { word: u32 },
+    NotBuilt {
+        word: u32,
+    },
     /// The text couldn't be put whole.
     WriteFault,
     /// Out of memory.
@@ -79,6 +103,7 @@ impl Status {
             Status::WriteFault => 8,
             Status::MatrixText { .. } => 9,
             Status::Shape(_) => 10,
+            Status::Property { .. } => 11,
             Status::Memory => 12,
             Status::NotBuilt { .. } => 13,
         }

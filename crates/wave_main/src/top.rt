@@ -1,18 +1,16 @@
 // The top calls.
-ghost use Rattle.std.specs.Prelude.{◌<◌, ◌^◌, ◌≡◌, ◌↔◌, length, IsTrue, OnOk, IfErr};
+ghost use Rattle.std.specs.Prelude.{◌<◌, ◌≤◌, ◌^◌, ◌≡◌, ◌↔◌, ℕ, List, length, IsTrue, OnOk, IfErr};
 ghost use Rattle.wave_io.specs.Faults.{Rose};
 ghost use Rattle.wave_io.specs.Written.{grown, TookPart};
 ghost use Rattle.wave_words.specs.Words.{texts};
 ghost use Rattle.wave_main.specs.Answers.{SaysWhy, status_of};
 ghost use Rattle.wave_main.specs.Calls.{changed, HasAnswered, HasEnded};
-ghost use Rattle.wave_main.specs.Commands.{IsBuiltRun, IsShow, Begins, IsOthers};
+ghost use Rattle.wave_main.specs.Commands.{AreRefused, Begins, IsOthers};
 
-use crate::fetch::{fetch_loop, fetch_run};
+use crate::commands::{built_command, make_text};
 use crate::report::report;
-use crate::run::run_text;
-use crate::show::show_text;
 use crate::status::Status;
-use crate::words::{Command, built_command, word_at};
+use crate::words::word_at;
 use std::alloc::Global;
 use std::sync::Wait;
 use std::thread::Threads;
@@ -25,42 +23,12 @@ use wave_io::sink::Sink;
 fn put_text<O: Sink>(out: &mut O, text: &[u8]) -> Result<(), Status>
     ensures whole { OnOk result (O.written out.new ≡ grown (O.written out.old) text.now) }
     ensures part { IfErr result (λ status. (status ≡ Status.WriteFault) × Rose (O.faults out.old) (O.faults out.new) × TookPart (O.written out.old) (O.written out.new) text.now) }
+    ensures never_falls { O.faults out.old ≤ O.faults out.new }
 {
     match put_all(out, text) {
         Ok(()) => Ok(()),
         Err(_) => Err(Status::WriteFault),
     }
-}
-
-/// Runs the loop that the words and the files name, and puts the arrays that it writes.
-fn try_run<L: Library, O: Sink>(
-    alloc: Global,
-    words: &[String],
-    lib: &mut L,
-    out: &mut O,
-) -> Result<(), Status>
-    requires built { IsBuiltRun (texts words.now) }
-    requires few { length words.now < 2 ^ 32 }
-    ensures { HasEnded (L.held lib.old) (texts words.now) (changed (L.faults lib.old) (L.faults lib.new) (O.written out.old) (O.written out.new) (O.faults out.old) (O.faults out.new)) (status_of result) }
-{
-    let files = fetch_run(alloc, lib, words)?;
-    let text = run_text(alloc, files)?;
-    put_text(out, text.as_slice())
-}
-
-/// Puts the canonical text of the loop that the words name.
-fn try_show<L: Library, O: Sink>(
-    alloc: Global,
-    words: &[String],
-    lib: &mut L,
-    out: &mut O,
-) -> Result<(), Status>
-    requires built { IsShow (texts words.now) }
-    ensures { HasEnded (L.held lib.old) (texts words.now) (changed (L.faults lib.old) (L.faults lib.new) (O.written out.old) (O.written out.new) (O.faults out.old) (O.faults out.new)) (status_of result) }
-{
-    let file = fetch_loop(alloc, lib, words)?;
-    let text = show_text(alloc, file)?;
-    put_text(out, text.as_bytes())
 }
 
 /// Does what the words ask for, or says why not.
@@ -71,12 +39,15 @@ fn try_command<L: Library, O: Sink>(
     out: &mut O,
 ) -> Result<(), Status>
     requires few { length words.now < 2 ^ 32 }
-    ensures { HasEnded (L.held lib.old) (texts words.now) (changed (L.faults lib.old) (L.faults lib.new) (O.written out.old) (O.written out.new) (O.faults out.old) (O.faults out.new)) (status_of result) }
+    ensures ended { HasEnded (L.held lib.old) (texts words.now) (changed (L.faults lib.old) (L.faults lib.new) (O.written out.old) (O.written out.new) (O.faults out.old) (O.faults out.new)) (status_of result) }
+    ensures untouched { AreRefused (texts words.now) → (lib.new ≡ lib.old) × (out.new ≡ out.old) }
+    ensures stays { (name : List ℕ) → L.held lib.new name ≡ L.held lib.old name }
+    ensures never_fall { (name : List ℕ) → L.faults lib.old name ≤ L.faults lib.new name }
+    ensures out_never_falls { O.faults out.old ≤ O.faults out.new }
 {
-    match built_command(words)? {
-        Command::Run => try_run(alloc, words, lib, out),
-        Command::Show => try_show(alloc, words, lib, out),
-    }
+    let asked = built_command(words)?;
+    let text = make_text(alloc, lib, words, asked)?;
+    put_text(out, text.as_slice())
 }
 
 fn ended(outcome: Result<(), Status>) -> Status
@@ -91,10 +62,7 @@ fn ended(outcome: Result<(), Status>) -> Status
 fn begins(words: &[String], wanted: &str) -> bool
     ensures { IsTrue result ↔ Begins (texts words.now) wanted.now }
 {
-    match word_at(words, 0) {
-        Some(first) => first == wanted,
-        None => false,
-    }
+    word_at(words, 0) == wanted
 }
 
 /// Does what the words ask for, and says in one line why it didn't.
@@ -109,6 +77,11 @@ fn serve<L: Library, O: Sink, E: Sink>(
     ensures answer { HasAnswered (L.held lib.old) (texts words.now) (changed (L.faults lib.old) (L.faults lib.new) (O.written out.old) (O.written out.new) (O.faults out.old) (O.faults out.new)) result }
     ensures says { SaysWhy result (E.written err.old) (E.written err.new) (E.faults err.old) (E.faults err.new) }
     ensures silent { result ≡ Status.Done → E.written err.new ≡ E.written err.old }
+    ensures untouched { AreRefused (texts words.now) → (lib.new ≡ lib.old) × (out.new ≡ out.old) }
+    ensures stays { (name : List ℕ) → L.held lib.new name ≡ L.held lib.old name }
+    ensures never_fall { (name : List ℕ) → L.faults lib.old name ≤ L.faults lib.new name }
+    ensures out_never_falls { O.faults out.old ≤ O.faults out.new }
+    ensures err_never_falls { E.faults err.old ≤ E.faults err.new }
 {
     let status = ended(try_command(alloc, words, lib, out));
     report(err, status);
@@ -129,6 +102,11 @@ pub fn quiet_main<R: AllocGlobal + Threads, L: Library, O: Sink, E: Sink>(
     ensures answer { ¬ IsOthers (texts words.now) → HasAnswered (L.held lib.old) (texts words.now) (changed (L.faults lib.old) (L.faults lib.new) (O.written out.old) (O.written out.new) (O.faults out.old) (O.faults out.new)) result }
     ensures says { SaysWhy result (E.written err.old) (E.written err.new) (E.faults err.old) (E.faults err.new) }
     ensures silent { result ≡ Status.Done → E.written err.new ≡ E.written err.old }
+    ensures untouched { AreRefused (texts words.now) → (lib.new ≡ lib.old) × (out.new ≡ out.old) }
+    ensures stays { (name : List ℕ) → L.held lib.new name ≡ L.held lib.old name }
+    ensures never_fall { (name : List ℕ) → L.faults lib.old name ≤ L.faults lib.new name }
+    ensures out_never_falls { O.faults out.old ≤ O.faults out.new }
+    ensures err_never_falls { E.faults err.old ≤ E.faults err.new }
 {
     if begins(words, "run") || begins(words, "demo") {
         report(err, Status::Usage { word: 0 });
@@ -151,6 +129,11 @@ pub fn wave_main<R: AllocGlobal + Threads + Wait, L: Library, O: Sink, E: Sink, 
     ensures answer { HasAnswered (L.held lib.old) (texts words.now) (changed (L.faults lib.old) (L.faults lib.new) (O.written out.old) (O.written out.new) (O.faults out.old) (O.faults out.new)) result }
     ensures says { SaysWhy result (E.written err.old) (E.written err.new) (E.faults err.old) (E.faults err.new) }
     ensures silent { result ≡ Status.Done → E.written err.new ≡ E.written err.old }
+    ensures untouched { AreRefused (texts words.now) → (lib.new ≡ lib.old) × (out.new ≡ out.old) }
+    ensures stays { (name : List ℕ) → L.held lib.new name ≡ L.held lib.old name }
+    ensures never_fall { (name : List ℕ) → L.faults lib.old name ≤ L.faults lib.new name }
+    ensures out_never_falls { O.faults out.old ≤ O.faults out.new }
+    ensures err_never_falls { E.faults err.old ≤ E.faults err.new }
 {
     if begins(words, "run") || begins(words, "demo") {
         return serve(rt.alloc(), words, lib, out, err);

@@ -1,5 +1,5 @@
 -- Words that begin those of a command, and how far they go.
-use Rattle.std.proofs.Common.{ℕ, zero, suc, ◌≡◌, ◌≤◌, ◌<◌, Bool, true, false, ◌&&◌, ◌||◌, if◌then◌else◌, List, [], ◌∷◌, ◌++◌, length, take, map, refl, arith}
+use Rattle.std.proofs.Common.{ℕ, zero, suc, ◌≡◌, ◌≤◌, ◌<◌, Bool, true, false, ◌&&◌, ◌||◌, if◌then◌else◌, List, [], ◌∷◌, ◌++◌, Option, Some, None, length, take, map, refl, subst, arith}
 use Rattle.std.specs.Prelude.{codes, max, nat_le}
 use Rattle.std.specs.List.{list_any}
 use Rattle.std.proofs.Math.Nat.{le-max_left, le-max_right}
@@ -9,7 +9,7 @@ use Rattle.wave_words.specs.declared.slot.Slot.TheVariants as slots
 use Rattle.wave_words.specs.declared.form.Form.{Form}
 use Rattle.wave_words.specs.Forms.{fits, is_whole, reach, form_reach, has_form, takes_files, slots_of}
 use Rattle.wave_words.specs.Reach.{furthest}
-use Rattle.wave_words.specs.Words.{IsUsageAt}
+use Rattle.wave_words.specs.Words.{asked, IsUsageAt}
 
 -- a word that fits
 abbrev fitting : Slot → List ℕ
@@ -144,9 +144,35 @@ absurd_any : (b : Bool) → b ≡ false → b ≡ true → ⊥
 absurd_any true e t = cc
 absurd_any false e t = cc
 
-pub usage_at : (forms : List Form) (ws : List (List ℕ)) (place : ℕ) → 0 < length forms → list_any (has_form ws) forms ≡ false → place ≤ length ws → place ≡ furthest ws forms → IsUsageAt forms ws place
+-- words have one of the forms, or are no command's
+asked_step : (f : Form) (b : Bool) (o : Option Form) (rest : Bool) → (if b then Some f else o) ≡ None → (o ≡ None → rest ≡ false) → (b || rest) ≡ false
+asked_step f true o rest e h = absurd cc
+asked_step f false o rest e h = h e
+
+none_asked : (forms : List Form) (ws : List (List ℕ)) → asked forms ws ≡ None → list_any (has_form ws) forms ≡ false
+none_asked [] ws e = refl
+none_asked (f ∷ fs) ws e = asked_step f (has_form ws f) (asked fs ws) (list_any (has_form ws) fs) e (none_asked fs ws)
+
+some_step : (f g : Form) (b : Bool) (o : Option Form) (rest : Bool) → (if b then Some f else o) ≡ Some g → (o ≡ Some g → rest ≡ true) → (b || rest) ≡ true
+some_step f g true o rest e h = refl
+some_step f g false o rest e h = h e
+
+pub some_asked : (forms : List Form) (ws : List (List ℕ)) (g : Form) → asked forms ws ≡ Some g → list_any (has_form ws) forms ≡ true
+some_asked [] ws g e = absurd cc
+some_asked (f ∷ fs) ws g e = some_step f g (has_form ws f) (asked fs ws) (list_any (has_form ws) fs) e (some_asked fs ws g)
+
+has_step : (ws : List (List ℕ)) (f g : Form) (b : Bool) (o : Option Form) → has_form ws f ≡ b → (if b then Some f else o) ≡ Some g → (o ≡ Some g → has_form ws g ≡ true) → has_form ws g ≡ true
+has_step ws f g true o is e h = let same : Some f ≡ Some g = e in let P : Form → Type 0 = λ x. has_form ws x ≡ true in let eq : f ≡ g = cc in subst P eq is
+has_step ws f g false o is e h = h e
+
+-- the form that is found is one that the words have
+pub asked_has : (forms : List Form) (ws : List (List ℕ)) (g : Form) → asked forms ws ≡ Some g → has_form ws g ≡ true
+asked_has [] ws g e = absurd cc
+asked_has (f ∷ fs) ws g e = has_step ws f g (has_form ws f) (asked fs ws) refl e (asked_has fs ws g)
+
+pub usage_at : (forms : List Form) (ws : List (List ℕ)) (place : ℕ) → 0 < length forms → asked forms ws ≡ None → place ≤ length ws → place ≡ furthest ws forms → IsUsageAt forms ws place
 usage_at forms ws place some refused within is = record {
-  refused = λ t. absurd_any _ refused t;
+  refused = λ t. absurd_any _ (none_asked forms ws refused) t;
   within = within;
   begins = let found = some_begins forms ws place some (omega (arith, is)) in (found.0, found.1);
   longest = λ k h begun. let below = none_further forms ws begun.0 k h (begun.1) in omega (arith, below, is);

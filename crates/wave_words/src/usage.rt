@@ -1,21 +1,20 @@
-// The first word that no command has at its place.
-ghost use Rattle.std.specs.Prelude.{◌≡◌, ◌≤◌, ◌<◌, ◌^◌, false, MatchOption, length};
-ghost use Rattle.std.specs.List.{list_any};
-ghost use Rattle.wave_words.specs.Forms.{has_form};
-ghost use Rattle.wave_words.specs.Words.{texts, IsCommand, IsUsageAt};
+// The form that words have, or the first word that no command has at its place.
+ghost use Rattle.std.specs.Prelude.{◌≡◌, ◌≤◌, ◌<◌, ◌^◌, None, Some, MatchResult, length};
+ghost use Rattle.wave_words.specs.Words.{texts, asked, IsUsageAt};
 ghost use Rattle.wave_words.specs.Reach.{furthest};
 
 use crate::form::{Form, form_reach, has_form};
 
-fn is_command(forms: &[Form], words: &[String]) -> bool
-    ensures { result ≡ list_any (has_form (texts words.now)) forms.now }
+/// The first of these forms that the words have.
+fn asked(forms: &[Form], words: &[String]) -> Option<Form>
+    ensures { result ≡ asked forms.now (texts words.now) }
 {
     for form in forms {
         if has_form(words, *form) {
-            return true;
+            return Some(*form);
         }
     }
-    false
+    None
 }
 
 /// The most words that may begin words of one of the commands.
@@ -35,21 +34,21 @@ fn furthest(forms: &[Form], words: &[String]) -> usize
 fn first_wrong(forms: &[Form], words: &[String]) -> u32
     requires some { 0 < length forms.now }
     requires few { length words.now < 2 ^ 32 }
-    requires refused { list_any (has_form (texts words.now)) forms.now ≡ false }
+    requires refused { asked forms.now (texts words.now) ≡ None }
     ensures { IsUsageAt forms.now (texts words.now) result }
 {
     furthest(forms, words) as u32
 }
 
-/// The place, from 0, of the first word that is wrong or missing, and `None` where the words are
-/// those of one of the commands. It takes no memory.
-pub fn usage(forms: &[Form], words: &[String]) -> Option<u32>
+/// The form that the words have, the first of these; of words that are no command's the place,
+/// from 0, of the first one that is wrong or missing. It takes no memory.
+pub fn usage(forms: &[Form], words: &[String]) -> Result<Form, u32>
     requires some { 0 < length forms.now }
     requires few { length words.now < 2 ^ 32 }
-    ensures { MatchOption result (IsCommand forms.now (texts words.now)) (IsUsageAt forms.now (texts words.now)) }
+    ensures { MatchResult result (λ form. asked forms.now (texts words.now) ≡ Some form) (IsUsageAt forms.now (texts words.now)) }
 {
-    if is_command(forms, words) {
-        return None;
+    match asked(forms, words) {
+        Some(form) => Ok(form),
+        None => Err(first_wrong(forms, words)),
     }
-    Some(first_wrong(forms, words))
 }

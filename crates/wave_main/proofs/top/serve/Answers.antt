@@ -17,6 +17,6 @@ returns-clause-answer g c =
       faults_after = g.O.Sink.faults c.try_command.new.out;
     } in
     let call : Call = record { words = ws; held = g.L.Library.held c.args.lib.now; changes = changes; status = c.ended-status.result } in
-    let ran = c.try_command.ensures in
+    let ran = c.try_command.ensures.ended in
     let P : Status → Type 0 = λ s. Ends ws ran.0 changes s in
     answer_of call (ran.0, ran.1, subst P (sym c.ended-status.ensures) ran.2)

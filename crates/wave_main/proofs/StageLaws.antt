@@ -1,0 +1,290 @@
+-- Stages: each refuses files with one status, and so do all of them together.
+use Rattle.std.proofs.Common.{ℕ, ℤ, suc, ◌≡◌, ◌⊎◌, inl, inr, ◌+◌, List, [], ◌∷◌, ◌++◌, Option, Some, None, length, refl, sym, ◌∙◌, ap, subst, arith}
+use Rattle.std.specs.Prelude.{Result, Ok, Err}
+use Rattle.std.specs.Option.{option_map}
+use Rattle.text_base.specs.Lines.{lines}
+use Rattle.mtx_read.specs.Files.{matrix, vector}
+use Rattle.mtx_read.specs.declared.refusal.MtxRefusal.{MtxRefusal}
+use Rattle.mtx_read.specs.declared.refusal.MtxRefusal.TheVariants as mtx_refusals
+use Rattle.loop_core.specs.declared.decl.PropDecl.{PropDecl}
+use Rattle.loop_core.specs.Lists.{Lists}
+use Rattle.loop_syntax.specs.declared.refusal.LoopRefusal.{LoopRefusal}
+use Rattle.loop_syntax.specs.declared.refusal.LoopRefusal.TheVariants as loop_refusals
+use Rattle.loop_syntax.proofs.TextLaws.{one_nest_of, one_reason, not_both}
+use Rattle.array_bind.specs.declared.shape.ShapeRefusal.{ShapeRefusal}
+use Rattle.array_bind.specs.declared.shape.ShapeRefusal.TheVariants as shape_refusals
+use Rattle.index_props.specs.Meanings.{Means, Passes}
+use Rattle.index_props.specs.Places.{FailsAt}
+use Rattle.prop_check.specs.Broken.{FirstBroken}
+use Rattle.prop_check.proofs.Found.{fails}
+use Rattle.prop_check.proofs.Unique.{once}
+use Rattle.wave_main.specs.declared.status.Status.{Status}
+use Rattle.wave_main.specs.declared.status.Status.TheVariants.{Done, Usage, ReadFault, Property, NotBuilt, WriteFault, Memory}
+use Rattle.wave_main.specs.Binding.{binding_fault, index_arrays, shape_status}
+use Rattle.wave_main.specs.Files.{Inputs}
+use Rattle.wave_main.specs.Loops.{IsLoop, IsLoopFault, loop_status}
+use Rattle.wave_main.specs.Matrices.{Parts, first_status, fault_of, matrix_status, matrix_fault, matrix_of, vectors_fault, vectors_of}
+use Rattle.wave_main.specs.Run.{IsInput}
+use Rattle.wave_main.specs.declared.input.Input.{Input}
+use Rattle.array_bind.specs.declared.bind.Bound.{Bound}
+use Rattle.array_bind.specs.Lists.{arrays_of, values_of, bound_of}
+use Rattle.loop_core.specs.declared.nest.Nest.{Nest}
+use Rattle.wave_main.specs.Stages.{Stage, OfLoop, OfMatrix, OfVectors, OfShapes, OfProperties, Misfits, Breaks, Calls, Accepts, AcceptAll, IsRefusedBy, array_stages, input_stages}
+
+-- what files may be refused with: no other end of a call
+abbrev pub IsFault : Status → Type 0
+IsFault Done = ⊥
+IsFault (Usage word) = ⊥
+IsFault (ReadFault word) = ⊥
+IsFault (NotBuilt word) = ⊥
+IsFault WriteFault = ⊥
+IsFault _ = Unit {0}
+
+abbrev Faulty : Option Status → Type 0
+Faulty None = Unit {0}
+Faulty (Some status) = IsFault status
+
+loop_faulty : (why : LoopRefusal) → IsFault (loop_status why)
+loop_faulty (loop_refusals.Text line) = tt
+loop_faulty (loop_refusals.Name line kind) = tt
+loop_faulty (loop_refusals.Limit line kind) = tt
+loop_faulty loop_refusals.Memory = tt
+
+matrix_faulty : (word : ℕ) (why : MtxRefusal) → IsFault (matrix_status word why)
+matrix_faulty word mtx_refusals.Header = tt
+matrix_faulty word (mtx_refusals.Field place) = tt
+matrix_faulty word (mtx_refusals.Size line) = tt
+matrix_faulty word (mtx_refusals.Entry line kind) = tt
+matrix_faulty word (mtx_refusals.Short have want) = tt
+matrix_faulty word (mtx_refusals.Extra line) = tt
+matrix_faulty word (mtx_refusals.Big what value) = tt
+matrix_faulty word mtx_refusals.Memory = tt
+
+shape_faulty : (first : ℕ) (why : ShapeRefusal) → IsFault (shape_status first why)
+shape_faulty first (shape_refusals.NotSquare rows columns) = tt
+shape_faulty first (shape_refusals.Files have want) = tt
+shape_faulty first (shape_refusals.Length file have want) = tt
+shape_faulty first shape_refusals.Memory = tt
+
+read_faulty : {A : Type 0} (word : ℕ) (read : Result A MtxRefusal) → Faulty (fault_of word read)
+read_faulty word (Ok value) = tt
+read_faulty word (Err why) = matrix_faulty word why
+
+mapped_faulty : {X : Type 0} (f : X → Status) → ((x : X) → IsFault (f x)) → (o : Option X) → Faulty (option_map f o)
+mapped_faulty f h None = tt
+mapped_faulty f h (Some x) = h x
+
+first_faulty : (a b : Option Status) → Faulty a → Faulty b → Faulty (first_status a b)
+first_faulty None b x y = y
+first_faulty (Some s) b x y = x
+
+vectors_faulty : (word : ℕ) (files : List (List ℕ)) → Faulty (vectors_fault word files)
+vectors_faulty word [] = tt
+vectors_faulty word (f ∷ fs) = first_faulty (fault_of word (vector f)) (vectors_fault (word + 1) fs) (read_faulty word (vector f)) (vectors_faulty (word + 1) fs)
+
+loop_fault_faulty : (bytes : List ℕ) (status : Status) → IsLoopFault bytes status → IsFault status
+loop_fault_faulty bytes status fault =
+    let P : Status → Type 0 = λ s. IsFault s in
+    elim fault [ inl (long, is) ↦ subst P (sym is) tt | inr (why, short, refused, is) ↦ subst P (sym is) (loop_faulty why) ]
+
+is_faulty : (o : Option Status) (status : Status) → Faulty o → o ≡ Some status → IsFault status
+is_faulty o status h e = let P : Option Status → Type 0 = λ x. Faulty x in let f : Faulty (Some status) = subst P e h in f
+
+stage_faulty : (stage : Stage) (files : Inputs) (status : Status) → Calls stage files status → IsFault status
+stage_faulty OfLoop files status fault = loop_fault_faulty files.loop_file status fault
+stage_faulty OfMatrix files status e = is_faulty _ status (read_faulty 2 (matrix files.matrix)) e
+stage_faulty OfVectors files status e = is_faulty _ status (vectors_faulty files.first files.vectors) e
+stage_faulty OfShapes files status (nest, loop, e) = is_faulty _ status (mapped_faulty (shape_status files.first) (shape_faulty files.first) _) e
+stage_faulty OfProperties files status (nest, property, first, second, loop, broken, is) =
+    let P : Status → Type 0 = λ s. IsFault s in
+    let fine : IsFault (Property property first second) = tt in subst P (sym is) fine
+
+pub refused_faulty : (stages : List Stage) (files : Inputs) (status : Status) → IsRefusedBy stages files status → IsFault status
+refused_faulty [] files status calls = absurd calls
+refused_faulty (stage ∷ later) files status calls = elim calls [
+  | inl here ↦ stage_faulty stage files status here
+  | inr rest ↦ refused_faulty later files status rest.1
+]
+
+-- ---- the first broken property
+
+pub first_passes : (a : Lists) (p : PropDecl) (ps : List PropDecl) → Passes (p ∷ ps) a → Means a p.kind
+first_passes a p ps all = all 0 p (omega arith)
+
+pub others_pass : (a : Lists) (p : PropDecl) (ps : List PropDecl) → Passes (p ∷ ps) a → Passes ps a
+others_pass a p ps all = λ k d below. all (suc k) d (omega (arith, below))
+
+pub one_split : (a : Lists) (xs ys l m : List PropDecl) (b c : PropDecl) → xs ++ b ∷ l ≡ ys ++ c ∷ m → Passes xs a → Passes ys a → ¬ Means a b.kind → ¬ Means a c.kind
+    → (length xs ≡ length ys) × (b ≡ c)
+one_split a [] [] l m b c e x y p q = let h : b ∷ l ≡ c ∷ m = e in let same : b ≡ c = cc in (refl, same)
+one_split a [] (z ∷ ys) l m b c e x y p q =
+    let h : b ∷ l ≡ z ∷ (ys ++ c ∷ m) = e in
+    let same : z ≡ b = cc in
+    absurd (p (subst (λ (d : PropDecl). Means a d.kind) same (first_passes a z ys y)))
+one_split a (z ∷ xs) [] l m b c e x y p q =
+    let h : z ∷ (xs ++ b ∷ l) ≡ c ∷ m = e in
+    let same : z ≡ c = cc in
+    absurd (q (subst (λ (d : PropDecl). Means a d.kind) same (first_passes a z xs x)))
+one_split a (z ∷ xs) (w ∷ ys) l m b c e x y p q =
+    let h : z ∷ (xs ++ b ∷ l) ≡ w ∷ (ys ++ c ∷ m) = e in
+    let rest : xs ++ b ∷ l ≡ ys ++ c ∷ m = cc in
+    let more = one_split a xs ys l m b c rest (others_pass a z xs x) (others_pass a w ys y) p q in
+    (ap suc more.0, more.1)
+
+pub one_broken : (props : List PropDecl) (a : Lists) (p f s q g t : ℕ) → FirstBroken props a p f s → FirstBroken props a q g t → (p ≡ q) × (f ≡ g) × (s ≡ t)
+one_broken props a p f s q g t x y =
+    let split : x.earlier ++ x.broken ∷ x.later ≡ y.earlier ++ y.broken ∷ y.later = sym x.stand ∙ y.stand in
+    let same = one_split a x.earlier y.earlier x.later y.later x.broken y.broken split x.hold y.hold (fails a x.broken.kind f s x.fails) (fails a y.broken.kind g t y.fails) in
+    let there = subst (λ (d : PropDecl). (other last : ℕ) → FailsAt a d.kind other last → (other ≡ f) × (last ≡ s)) same.1 (λ other last z. once a x.broken.kind f s other last x.fails z) in
+    let places = there g t y.fails in
+    (x.number ∙ ap (λ n. n + 1) same.0 ∙ sym y.number, sym places.0, sym places.1)
+
+-- the property after some that pass
+inner_passes : (a : Lists) (xs l : List PropDecl) (b : PropDecl) → Passes (xs ++ b ∷ l) a → Means a b.kind
+inner_passes a [] l b all = first_passes a b l all
+inner_passes a (x ∷ xs) l b all = inner_passes a xs l b (others_pass a x (xs ++ b ∷ l) all)
+
+pub none_broken : (props : List PropDecl) (a : Lists) (p f s : ℕ) → Passes props a → ¬ FirstBroken props a p f s
+none_broken props a p f s all x =
+    let P : List PropDecl → Type 0 = λ l. Passes l a in
+    fails a x.broken.kind f s x.fails (inner_passes a x.earlier x.later x.broken (subst P x.stand all))
+
+-- ---- one status
+
+one_some : (o : Option Status) (a b : Status) → o ≡ Some a → o ≡ Some b → a ≡ b
+one_some o a b x y = let e : Some a ≡ Some b = sym x ∙ y in cc
+
+-- the bytes of a loop file are one nest, or are refused for one reason, and not both
+pub one_loop : (bytes : List ℕ) (a b : Nest) → IsLoop bytes a → IsLoop bytes b → a ≡ b
+one_loop bytes a b x y = one_nest_of (lines bytes) a b x.has y.has
+
+one_loop_fault : (bytes : List ℕ) (a b : Status) → IsLoopFault bytes a → IsLoopFault bytes b → a ≡ b
+one_loop_fault bytes a b x y = elim x [
+  | inl (long, is) ↦ elim y [
+    | inl (also, other) ↦ is ∙ sym other
+    | inr (why, short, refused, other) ↦ absurd (omega (arith, long, short))
+  ]
+  | inr (why, short, refused, is) ↦ elim y [
+    | inl (long, other) ↦ absurd (omega (arith, long, short))
+    | inr (reason, also, called, other) ↦ is ∙ ap loop_status (one_reason (lines bytes) why reason refused called) ∙ sym other
+  ]
+]
+
+pub loop_accepted : (files : Inputs) (nest : Nest) → IsLoop files.loop_file nest → Accepts OfLoop files
+loop_accepted files nest loop status fault = elim fault [
+  | inl (long, is) ↦ omega (arith, long, loop.short)
+  | inr (why, short, refused, is) ↦ not_both (lines files.loop_file) nest why loop.has refused
+]
+
+one_misfit : (files : Inputs) (a b : Status) → Misfits files a → Misfits files b → a ≡ b
+one_misfit files a b (nest, loop, x) (other, also, y) =
+    let P : Nest → Type 0 = λ n. binding_fault files.first n.decls (matrix_of files.matrix) (vectors_of files.vectors) ≡ Some b in
+    one_some _ a b x (subst P (one_loop files.loop_file other nest also loop) y)
+
+one_break : (files : Inputs) (a b : Status) → Breaks files a → Breaks files b → a ≡ b
+one_break files a b (nest, p, f, s, loop, x, is) (other, q, g, t, again, y, also) =
+    let P : Nest → Type 0 = λ n. FirstBroken n.props (index_arrays n.decls files) q g t in
+    let same = one_broken nest.props (index_arrays nest.decls files) p f s q g t x (subst P (one_loop files.loop_file other nest again loop) y) in
+    is ∙ ap (λ n. Property n f s) same.0 ∙ ap (λ n. Property q n s) same.1 ∙ ap (λ n. Property q g n) same.2 ∙ sym also
+
+pub one_call : (stage : Stage) (files : Inputs) (a b : Status) → Calls stage files a → Calls stage files b → a ≡ b
+one_call OfLoop files a b x y = one_loop_fault files.loop_file a b x y
+one_call OfMatrix files a b x y = one_some _ a b x y
+one_call OfVectors files a b x y = one_some _ a b x y
+one_call OfShapes files a b x y = one_misfit files a b x y
+one_call OfProperties files a b x y = one_break files a b x y
+
+pub one_by_stages : (stages : List Stage) (files : Inputs) (a b : Status) → IsRefusedBy stages files a → IsRefusedBy stages files b → a ≡ b
+one_by_stages [] files a b x y = absurd x
+one_by_stages (stage ∷ later) files a b x y = elim x [
+  | inl here ↦ elim y [
+    | inl also ↦ one_call stage files a b here also
+    | inr rest ↦ absurd (rest.0 a here)
+  ]
+  | inr rest ↦ elim y [
+    | inl also ↦ absurd (rest.0 b also)
+    | inr other ↦ one_by_stages later files a b rest.1 other.1
+  ]
+]
+
+pub none_by_stages : (stages : List Stage) (files : Inputs) (status : Status) → AcceptAll stages files → ¬ IsRefusedBy stages files status
+none_by_stages [] files status all x = x
+none_by_stages (stage ∷ later) files status (first, rest) x = elim x [
+  | inl here ↦ first status here
+  | inr other ↦ none_by_stages later files status rest other.1
+]
+
+-- ---- the stages of files that are read one after another
+
+pub none_some : (o : Option Status) (a : Status) → o ≡ None → ¬ (o ≡ Some a)
+none_some o a x y = let e : None ≡ Some a = sym x ∙ y in cc
+
+-- the stages before the shapes, of files that are read
+abbrev pub AreRead : Inputs → Nest → ℕ → Type 0
+AreRead files nest first = IsLoop files.loop_file nest × (matrix_fault files.matrix ≡ None) × (files.first ≡ first) × (vectors_fault first files.vectors ≡ None)
+
+abbrev pub Stopped : Inputs → Status → Type 0
+Stopped files status = (status ≡ Memory) ⊎ IsRefusedBy input_stages files status
+
+pub matrix_stops : (files : Inputs) (nest : Nest) (status : Status) → IsLoop files.loop_file nest → (status ≡ Memory) ⊎ (matrix_fault files.matrix ≡ Some status) → Stopped files status
+matrix_stops files nest status loop cause = elim cause [ inl want ↦ inl want | inr fault ↦ inr (inr (loop_accepted files nest loop, inl fault)) ]
+
+matrix_accepted : (files : Inputs) → matrix_fault files.matrix ≡ None → Accepts OfMatrix files
+matrix_accepted files none status fault = none_some _ status none fault
+
+pub vectors_stop : (files : Inputs) (nest : Nest) (first : ℕ) (status : Status) → IsLoop files.loop_file nest → matrix_fault files.matrix ≡ None → files.first ≡ first
+    → (status ≡ Memory) ⊎ (vectors_fault first files.vectors ≡ Some status) → Stopped files status
+vectors_stop files nest first status loop none at cause = elim cause [
+  | inl want ↦ inl want
+  | inr fault ↦ inr (inr (loop_accepted files nest loop, inr (matrix_accepted files none, inl (ap (λ n. vectors_fault n files.vectors) at ∙ fault))))
+]
+
+vectors_accepted : (files : Inputs) (first : ℕ) → files.first ≡ first → vectors_fault first files.vectors ≡ None → Accepts OfVectors files
+vectors_accepted files first at none status fault = none_some _ status (ap (λ n. vectors_fault n files.vectors) at ∙ none) fault
+
+-- the refusal of the shapes is that of files which are read
+left_shapes : (files : Inputs) (nest : Nest) (m : Parts) (vs : List (List ℤ)) (first : ℕ) → matrix_of files.matrix ≡ m → files.first ≡ first → vs ≡ vectors_of files.vectors
+    → binding_fault files.first nest.decls (matrix_of files.matrix) (vectors_of files.vectors) ≡ binding_fault first nest.decls m vs
+left_shapes files nest m vs first m_is at vs_is =
+    ap (λ n. binding_fault n nest.decls (matrix_of files.matrix) (vectors_of files.vectors)) at
+    ∙ ap (λ (x : Parts). binding_fault first nest.decls x (vectors_of files.vectors)) m_is
+    ∙ ap (λ (x : List (List ℤ)). binding_fault first nest.decls m x) (sym vs_is)
+
+pub shapes_stop : (files : Inputs) (nest : Nest) (m : Parts) (vs : List (List ℤ)) (first : ℕ) (status : Status) → AreRead files nest first → matrix_of files.matrix ≡ m → vs ≡ vectors_of files.vectors
+    → (status ≡ Memory) ⊎ (binding_fault first nest.decls m vs ≡ Some status) → Stopped files status
+shapes_stop files nest m vs first status (loop, none, at, no_fault) m_is vs_is cause = elim cause [
+  | inl want ↦ inl want
+  | inr fault ↦
+      let misfit : Misfits files status = (nest, loop, left_shapes files nest m vs first m_is at vs_is ∙ fault) in
+      inr (inr (loop_accepted files nest loop, inr (matrix_accepted files none, inr (vectors_accepted files first at no_fault, inl misfit))))
+]
+
+shapes_accepted : (files : Inputs) (nest : Nest) → IsLoop files.loop_file nest → binding_fault files.first nest.decls (matrix_of files.matrix) (vectors_of files.vectors) ≡ None → Accepts OfShapes files
+shapes_accepted files nest loop none status (other, also, fault) =
+    let P : Nest → Type 0 = λ n. binding_fault files.first n.decls (matrix_of files.matrix) (vectors_of files.vectors) ≡ Some status in
+    none_some _ status none (subst P (one_loop files.loop_file other nest also loop) fault)
+
+pub bound_files : (files : Inputs) (input : Input) (m : Parts) (vs : List (List ℤ)) (bound : Bound) (first : ℕ) → AreRead files input.nest first → matrix_of files.matrix ≡ m → vs ≡ vectors_of files.vectors
+    → binding_fault first input.nest.decls m vs ≡ None → bound ≡ bound_of input.nest.decls m.0 m.2 vs
+    → input.arrays ≡ bound.arrays → input.values ≡ bound.values → IsInput files input × AcceptAll array_stages files
+bound_files files input m vs bound first (loop, matrix_none, at, vectors_none) m_is vs_is none bound_is arrays values =
+    let d = input.nest.decls in
+    let fits = left_shapes files input.nest m vs first m_is at vs_is ∙ none in (
+      record {
+        is_loop = loop;
+        arrays = arrays ∙ ap (λ (b : Bound). b.arrays) bound_is ∙ ap (λ (x : List (List ℤ)). arrays_of d m.0 m.2 x) vs_is ∙ ap (λ (x : Parts). arrays_of d x.0 x.2 (vectors_of files.vectors)) (sym m_is);
+        values = values ∙ ap (λ (b : Bound). b.values) bound_is ∙ ap (λ (x : List (List ℤ)). values_of d m.0 m.2 x) vs_is ∙ ap (λ (x : Parts). values_of d x.0 x.2 (vectors_of files.vectors)) (sym m_is);
+      },
+      (loop_accepted files input.nest loop, (matrix_accepted files matrix_none, (vectors_accepted files first at vectors_none, (shapes_accepted files input.nest loop fits, tt)))),
+    )
+
+-- ---- the properties, after all that
+
+by_property : (files : Inputs) (status : Status) → AcceptAll array_stages files → Breaks files status → IsRefusedBy input_stages files status
+by_property files status (l, (m, (v, (s, none)))) broken = inr (l, inr (m, inr (v, inr (s, inl broken))))
+
+pub property_stops : (files : Inputs) (status : Status) → AcceptAll array_stages files → (status ≡ Memory) ⊎ Breaks files status → Stopped files status
+property_stops files status all cause = elim cause [ inl want ↦ inl want | inr broken ↦ inr (by_property files status all broken) ]
+
+pub all_accept : (files : Inputs) → AcceptAll array_stages files → Accepts OfProperties files → AcceptAll input_stages files
+all_accept files (l, (m, (v, (s, none)))) passed = (l, (m, (v, (s, (passed, tt)))))

@@ -1,0 +1,9 @@
+use Rattle.std.proofs.Common.{arith, ap, length}
+use Rattle.std.proofs.lemmas.Bool.Decides.{nat_tests}
+use Rattle.wave_main.proofs.FewLaws.{few_properties}
+use Rattle.wave_main.proofs.loops.read_loop.Goals as goal
+
+pub returns-in-Ok-clause-few_properties : goal.returns-in-Ok-clause-few_properties
+returns-in-Ok-clause-few_properties c =
+    let same = ap length c.as_slice.ensures.value in
+    few_properties c.as_slice.result.now c.in-Ok.nest (grind (arith, nat_tests, c.if-len-gt65536.false, c.len.ensures, same)) c.in-Ok.ensures.grammar

@@ -1,0 +1,58 @@
+-- Why the files of a command are refused, in stages: a later one counts where no earlier one refuses them.
+use Rattle.std.specs.Prelude.{◌≡◌, ◌⊎◌, ℕ, List, [], ◌∷◌, Some}
+use Rattle.loop_core.specs.declared.nest.Nest.{Nest}
+use Rattle.prop_check.specs.Broken.{FirstBroken}
+use Rattle.wave_main.specs.declared.status.Status.{Status}
+use Rattle.wave_main.specs.declared.status.Status.TheVariants.{Property}
+use Rattle.wave_main.specs.Binding.{binding_fault, index_arrays}
+use Rattle.wave_main.specs.Files.{Inputs}
+use Rattle.wave_main.specs.Loops.{IsLoop, IsLoopFault}
+use Rattle.wave_main.specs.Matrices.{matrix_fault, matrix_of, vectors_fault, vectors_of}
+
+pub data Stage : Type 0 where
+  OfLoop : Stage
+  OfMatrix : Stage
+  OfVectors : Stage
+  OfShapes : Stage
+  OfProperties : Stage
+
+-- the first shape of the files that doesn't fit the loop
+abbrev pub Misfits : Inputs → Status → Type 0
+Misfits files status =
+    (nest : Nest) × IsLoop files.loop_file nest × (binding_fault files.first nest.decls (matrix_of files.matrix) (vectors_of files.vectors) ≡ Some status)
+
+-- the first property of the loop that the arrays break, with its two places
+abbrev pub Breaks : Inputs → Status → Type 0
+Breaks files status =
+    (nest : Nest) × (property : ℕ) × (first : ℕ) × (second : ℕ)
+    × IsLoop files.loop_file nest
+    × FirstBroken nest.props (index_arrays nest.decls files) property first second
+    × (status ≡ Property property first second)
+
+-- a stage refuses the files with a status
+abbrev pub Calls : Stage → Inputs → Status → Type 0
+Calls OfLoop files status = IsLoopFault files.loop_file status
+Calls OfMatrix files status = matrix_fault files.matrix ≡ Some status
+Calls OfVectors files status = vectors_fault files.first files.vectors ≡ Some status
+Calls OfShapes files status = Misfits files status
+Calls OfProperties files status = Breaks files status
+
+-- a stage, and all of them, refuse the files with no status
+abbrev pub Accepts : Stage → Inputs → Type 0
+Accepts stage files = (status : Status) → ¬ Calls stage files status
+
+abbrev pub AcceptAll : List Stage → Inputs → Type 0
+AcceptAll [] files = Unit {0}
+AcceptAll (stage ∷ later) files = Accepts stage files × AcceptAll later files
+
+-- one of the stages refuses the files with this status, and none before it refuses them
+abbrev pub IsRefusedBy : List Stage → Inputs → Status → Type 0
+IsRefusedBy [] files status = ⊥
+IsRefusedBy (stage ∷ later) files status = Calls stage files status ⊎ (Accepts stage files × IsRefusedBy later files status)
+
+-- the stages of arrays, properties aside, and all stages of a loop with its arrays
+abbrev pub array_stages : List Stage
+array_stages = OfLoop ∷ OfMatrix ∷ OfVectors ∷ OfShapes ∷ []
+
+abbrev pub input_stages : List Stage
+input_stages = OfLoop ∷ OfMatrix ∷ OfVectors ∷ OfShapes ∷ OfProperties ∷ []
