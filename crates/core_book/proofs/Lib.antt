@@ -1,0 +1,4 @@
+pub mod Going
+pub mod Following
+pub mod Nested
+pub mod Longer

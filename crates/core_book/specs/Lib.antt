@@ -1,0 +1,3 @@
+pub mod Hows
+pub mod Caught
+pub mod Follows

@@ -1,0 +1,13 @@
+pub mod Numbers
+pub mod Runs
+pub mod Laid
+pub mod Kept
+pub mod Scripts
+pub mod Parsed
+pub mod Laying
+pub mod Facts
+pub mod Steps
+pub mod Turns
+pub mod Reached
+pub mod Bounded
+pub mod TwoRows

@@ -1,0 +1,7 @@
+use Rattle.core_law.proofs.Laying.{laid}
+use Rattle.core_law.proofs.Reached.{holds}
+use Rattle.core_law.proofs.Facts as facts
+use Rattle.core_law.proofs.laws.dependences_are_kept.Goals as goal
+
+pub returns : goal.returns
+returns c = λ w e fit reached. facts.dependences_kept w fit (laid w fit) e (holds w fit e reached)

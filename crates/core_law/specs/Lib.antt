@@ -1,0 +1,17 @@
+pub mod Works
+pub mod Numbers
+pub mod Sequential
+pub mod Dependence
+pub mod Fit
+pub mod Scripts
+pub mod Machine
+pub mod Standing
+pub mod Values
+pub mod Registers
+pub mod Prefixes
+pub mod Ordered
+pub mod Stepping
+pub mod Teaching
+pub mod Rounds
+pub mod Bounds
+pub mod TwoRows

@@ -1,0 +1,5 @@
+pub mod Deeds
+pub mod Locals
+pub mod Replay
+pub mod RowLaws
+pub mod Progress
