@@ -8,7 +8,7 @@
 set -eu
 cd "$(dirname "$0")/../crates/bench_close"
 program=out/bench_close
-[ -x "$program" ] || rt run > /dev/null
+[ -x "$program" ] || rt run > /dev/null || [ -x "$program" ]
 turns=${1:-20}
 [ $# -eq 0 ] || shift
 [ $# -gt 0 ] || set -- 3 10

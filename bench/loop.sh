@@ -9,7 +9,7 @@ rows=${1:-200000}
 rounds=${2:-5}
 turns=${3:-9}
 program=out/bench_loop
-[ -x "$program" ] || rt run > /dev/null
+[ -x "$program" ] || rt run > /dev/null || [ -x "$program" ]
 
 nanoseconds() {
     "$program" "$1" "$rows" "$rounds" 2>&1 > /dev/null | sed -n 's/^nanoseconds //p'

@@ -2,18 +2,16 @@
 """What a whole proof costs: for each crate the processor seconds and the most memory of its proof, and
 the processor seconds of its must-fail edits.
 
-usage: bench/proofs.py [--scratch] [--no-edits] [--jobs N] [--costs FILE] [--table FILE] [NAME..]
+usage: bench/proofs.py [--no-edits] [--jobs N] [--table FILE] [NAME..]
 
-Each crate is proved by `rt ci NAME`, those that it uses before it, up to N (4) side by side: first
-without its edits, which gives the proof (or the tests, for a crate whose name begins with
-`tests_`), then with them. What `rt ci` has kept on this machine isn't proved again: then the figures
-are those that FILE has of an earlier run, and 0 where it has none. --scratch marks each crate's root
-file in the copy that is measured, so that nothing is kept for it. The table is Markdown; below it
+In a copy of the crates in which nothing is kept each crate is proved by `rt check`, those that it uses
+before it, up to N (4) side by side; a crate whose name begins with `tests_` is proved with its tests,
+by `rt check --test`. Then its edits are tried, by `rt must-fail NAME`. The table is Markdown; below it
 stand the sums, and the chain of crates with the greatest sum of wall times. Seconds are of
-processors, user and system.
+processors, user and system. `rt ci` spends about as much, and more for building and running tests and
+programs.
 """
 import argparse
-import json
 import os
 import shutil
 import subprocess
@@ -26,13 +24,12 @@ TOP = os.path.dirname(os.path.dirname(os.path.abspath(__file__)))
 
 
 class Cost:
-    """What one run of `rt ci` took: processor and wall seconds, and the most megabytes."""
+    """What one run of `rt` took: processor and wall seconds, and the most megabytes."""
 
-    def __init__(self, **known):
+    def __init__(self):
         self.processor = self.wall = 0.0
         self.megabytes = 0
         self.passed = True
-        self.__dict__.update(known)
 
 
 def crates_of(path):
@@ -46,11 +43,10 @@ def crates_of(path):
     return {name: [low for low in below if low in uses] for name, below in uses.items()}
 
 
-def run_ci(folder, name, earlier):
-    """Runs `rt ci NAME` in the folder. Where nothing was done, the cost is the earlier one, if there
-    is one."""
+def run_rt(folder, *words):
+    """Runs `rt` with these words in the folder."""
     cost, start = Cost(), time.time()
-    child = subprocess.Popen(["rt", "ci", name], cwd=folder, stdin=subprocess.DEVNULL,
+    child = subprocess.Popen(["rt", *words], cwd=folder, stdin=subprocess.DEVNULL,
                              stdout=subprocess.PIPE, stderr=subprocess.STDOUT, text=True, errors="replace")
     lines = list(child.stdout)
     _, status, used = os.wait4(child.pid, 0)
@@ -61,45 +57,30 @@ def run_ci(folder, name, earlier):
     cost.passed = status == 0
     if not cost.passed:
         sys.stderr.write("".join(lines[-40:]))
-    elif earlier is not None and cost.processor < 5:
-        return Cost(**earlier)
     return cost
 
 
-def copy_of(scratch, with_edits):
-    """A copy of what a proof reads, each root file marked where nothing kept is to count."""
-    left_out = shutil.ignore_patterns("out", *([] if with_edits else ["must-fail"]))
+def copy_of():
+    """A copy of what a proof reads, without what was kept."""
     folder = tempfile.mkdtemp(prefix="wave-proofs-")
-    names = [name for name in ("crates", "crates.txt", "HANDLES") if os.path.exists(os.path.join(TOP, name))]
-    for name in names:
-        source, target = os.path.join(TOP, name), os.path.join(folder, name)
-        if os.path.isdir(source):
-            shutil.copytree(source, target, ignore=left_out)
-        else:
-            shutil.copy(source, target)
-    if scratch:
-        for name in os.listdir(os.path.join(folder, "crates")):
-            for root in ("lib.rt", "main.rt"):
-                path = os.path.join(folder, "crates", name, "src", root)
-                if os.path.exists(path):
-                    with open(path, "a") as file:
-                        file.write(f"// measured at {time.time_ns()}\n")
+    shutil.copytree(os.path.join(TOP, "crates"), os.path.join(folder, "crates"), ignore=shutil.ignore_patterns("out"))
+    for name in ("crates.txt", "HANDLES"):
+        shutil.copy(os.path.join(TOP, name), folder)
+    # a root that the toolchain finds
+    os.mkdir(os.path.join(folder, ".git"))
     return folder
 
 
-def measure(folder, name, earlier):
-    """The cost of the proof, and that of the edits on top of it, where there are edits in the folder."""
-    edits = os.path.join(folder, "crates", name, "must-fail")
-    if not os.path.isdir(edits):
-        return run_ci(folder, name, earlier[0]), None
-    aside = os.path.join(folder, "edits-of-" + name)
-    os.rename(edits, aside)
-    proof = run_ci(folder, name, earlier[0])
-    os.rename(aside, edits)
-    return proof, run_ci(folder, name, earlier[1]) if proof.passed else None
+def measure(folder, name, with_edits):
+    """The cost of the proof, and that of the edits on top of it, where there are edits."""
+    crate = os.path.join(folder, "crates", name)
+    proof = run_rt(crate, "check", *(["--test"] if name.startswith("tests_") else []))
+    if not (with_edits and proof.passed and os.path.isdir(os.path.join(crate, "must-fail"))):
+        return proof, None
+    return proof, run_rt(folder, "must-fail", name)
 
 
-def measure_all(folder, uses, jobs, earlier):
+def measure_all(folder, uses, jobs, with_edits):
     """All crates, each after those that it uses."""
     costs, running, lock = {}, set(), threading.Condition()
 
@@ -116,7 +97,7 @@ def measure_all(folder, uses, jobs, earlier):
                     return
                 name = ready()[0]
                 running.add(name)
-            cost = measure(folder, name, earlier.get(name, (None, None)))
+            cost = measure(folder, name, with_edits)
             print(f"{name}: {cost[0].processor:.0f} s", file=sys.stderr, flush=True)
             with lock:
                 running.discard(name)
@@ -163,10 +144,8 @@ def table(uses, costs):
 
 def main():
     words = argparse.ArgumentParser(description=__doc__, formatter_class=argparse.RawDescriptionHelpFormatter)
-    words.add_argument("--scratch", action="store_true", help="let nothing count that is kept")
     words.add_argument("--no-edits", action="store_true", help="measure the proofs and tests alone")
     words.add_argument("--jobs", type=int, default=4, help="crates side by side")
-    words.add_argument("--costs", metavar="FILE", help="a file of figures, which is read and written again")
     words.add_argument("--table", metavar="FILE", help="a file for the table, beside standard output")
     words.add_argument("names", nargs="*", help="these crates alone, with those below them")
     given = words.parse_args()
@@ -180,19 +159,11 @@ def main():
                 wanted.add(name)
                 todo += uses[name]
         uses = {name: below for name, below in uses.items() if name in wanted}
-    earlier = {}
-    if given.costs and os.path.exists(given.costs):
-        with open(given.costs) as file:
-            earlier = json.load(file)
-    folder = copy_of(given.scratch, not given.no_edits)
+    folder = copy_of()
     try:
-        costs = measure_all(folder, uses, given.jobs, earlier)
+        costs = measure_all(folder, uses, given.jobs, not given.no_edits)
     finally:
         shutil.rmtree(folder)
-    if given.costs:
-        known = {name: [cost and cost.__dict__ for cost in pair] for name, pair in costs.items()}
-        with open(given.costs, "w") as file:
-            json.dump(earlier | known, file, indent=1)
     text = table(uses, costs)
     print(text, end="")
     if given.table:

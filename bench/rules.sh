@@ -7,5 +7,5 @@
 set -eu
 cd "$(dirname "$0")/../crates/bench_rules"
 program=out/bench_rules
-[ -x "$program" ] || rt run > /dev/null
+[ -x "$program" ] || rt run > /dev/null || [ -x "$program" ]
 "$program" time "${1:-10}"

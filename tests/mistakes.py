@@ -70,7 +70,10 @@ MISTAKES = [
     ("a capital letter", loop("  set X[i] = b[i]"), WORDS, "loop text line 5", "small letters"),
     ("a number with a point", loop("  set x[i] = 0.5 * b[i]"), WORDS, "loop text line 5", "scale them"),
     ("two brackets", loop("  set x[i] = a[i][i]"), WORDS, "loop text line 5", "a.ptr[i]..a.ptr[i+1]"),
-    ("a scalar", loop("  set s = b[i]"), WORDS, "loop text line 5", "vector s n zero"),
+    ("a scalar", loop("  set s = b[i]"), WORDS, "loop name line 5 unknown", "local s"),
+    ("a local in the loop", loop("  local s"), WORDS, "loop text line 5", "above the loop"),
+    ("a maximum of one value", loop("  set x[i] = max(b[i])"), WORDS, "loop text line 5", "take two values"),
+    ("a vector without a bracket", loop("  set x = b[i]"), WORDS, "loop name line 5 wrong_kind", "an entry such as `x[i]`"),
     ("a semicolon", loop("  set x[i] = b[i];"), WORDS, "loop text line 5", "leave them out"),
     ("an if", loop("  if i < n"), WORDS, "loop text line 5", "when a.col[p] < i"),
     ("a greater sign", loop("  when n > i"), WORDS, "loop text line 5", "b < a"),
@@ -102,6 +105,9 @@ MISTAKES = [
     ("a matrix that isn't square", matrix("3 3 5", "4 3 5"), WORDS, "shape rows 4 columns 3", "a greater number in the size line"),
     ("a vector too few", {}, ["run", "a.loop", "a.mtx", "1"], "shape files have 0 want 1", "in this order: b"),
     ("a vector that is too short", vector("3 1\n1\n", "2 1\n"), WORDS, "shape length word 4 have 2 want 3", "in this order: b"),
+    ("a property that doesn't hold", {"a.loop": LOOP.replace("loop i", "below a.col by a.ptr\nloop i")}, WORDS, "property 1 first 0 second 0", "its line 4: below a.col by a.ptr"),
+    ("a check of one", {"a.loop": LOOP.replace("loop i", "# of the rows\nstrict a.ptr\nbelow a.col by a.ptr\nloop i")}, ["check", "a.loop", "a.mtx", "b.mtx"], "property 2 first 0 second 0", "its line 6: below a.col by a.ptr"),
+    ("workers for a check", {}, ["check", "a.loop", "a.mtx", "1", "b.mtx"], "read word 3", "1, which isn't there"),
 ]
 
 STAND_IN = '#!/bin/sh\necho "$FAULT" >&2\nexit 9\n'

@@ -11,23 +11,45 @@ top=$(CDPATH='' cd -- "$(dirname -- "$0")/.." && pwd -P) || exit 1
 logs=$top/.build
 program=$top/crates/wave/out/wave
 
-# uses: for each crate that the program stands on, lowest first, a line with its name and the crates of
-# the repository that it uses.
+# sizes: for each crate a line with its name and the bytes of its sources, which say about how long its
+# proof takes.
+sizes() {
+    for folder in "$top"/crates/*/; do
+        name=${folder%/}
+        echo "${name##*/} $(cat "$folder"src/*.rt "$folder"specs/*.antt "$folder"proofs/*.antt 2>/dev/null | wc -c)"
+    done
+}
+
+# uses: for each crate that the program stands on a line with its name and the crates of the repository that
+# it uses. The longest chain of proofs comes first, so a crate stands after those that it uses.
 uses() {
-    awk '
+    { sizes; echo; cat "$top/crates.txt"; } | awk '
         function visit(crate, list, count, i) {
             if (crate in done || !(crate in needs)) return
             done[crate] = 1
             count = split(needs[crate], list, " ")
-            line = crate
             for (i = 1; i <= count; i++) visit(list[i])
-            line = crate
-            for (i = 1; i <= count; i++) if (list[i] in needs) line = line " " list[i]
-            print line
+            order[++known] = crate
         }
+        !sized && NF == 0 { sized = 1; next }
+        !sized { size[$1] = $2; next }
         { sub(/#.*/, "") }
         /:/ { split($0, half, ":"); split(half[1], name, " "); needs[name[1]] = half[2] }
-        END { visit("wave") }' "$top/crates.txt"
+        END {
+            visit("wave")
+            for (k = known; k >= 1; k--) {
+                crate = order[k]
+                chain[crate] = size[crate] + above[crate]
+                line = chain[crate] " " crate
+                count = split(needs[crate], list, " ")
+                for (i = 1; i <= count; i++) {
+                    if (!(list[i] in needs)) continue
+                    line = line " " list[i]
+                    if (above[list[i]] < chain[crate]) above[list[i]] = chain[crate]
+                }
+                print line
+            }
+        }' | sort -rn | cut -d ' ' -f 2-
 }
 
 say() {
@@ -41,16 +63,41 @@ are_done() {
     done
 }
 
-# prove CRATE: proves one crate, and builds the program where it is that.
+# copy_sources: for each processor a copy of the sources. Two proofs side by side in one folder would wait for
+# each other wherever they use a common crate.
+copy_sources() {
+    copies=$(mktemp -d "${TMPDIR:-/tmp}/wave-build-XXXXXX") || exit 1
+    for slot in $(seq "$most"); do
+        mkdir -p "$copies/$slot/crates"
+        cp "$top/crates.txt" "$top/HANDLES" "$copies/$slot"
+        cut -d ' ' -f 1 "$logs/uses" | while read -r crate; do
+            mkdir "$copies/$slot/crates/$crate"
+            for part in src specs proofs; do
+                [ ! -d "$top/crates/$crate/$part" ] || cp -R "$top/crates/$crate/$part" "$copies/$slot/crates/$crate"
+            done
+        done
+    done
+}
+
+# prove CRATE SLOT: proves one crate in a copy, takes over here what was kept there, and builds the program where
+# the crate is that.
 prove() {
-    cd "$top/crates/$1" || return 1
     if [ "$1" = wave ]; then
+        cd "$top/crates/wave" || return 1
         # rt also runs the program; whether it was built shows in the program alone
         rt run
         [ -x "$program" ]
     else
-        rt lib
+        cd "$copies/$2/crates/$1" && rt lib && cd "$top/crates/$1" && rt lib
     fi
+}
+
+# free_slot: the first copy in which nothing is proved.
+free_slot() {
+    for slot in $(seq "$most"); do
+        [ -f "$logs/$slot.taken" ] || break
+    done
+    echo "$slot"
 }
 
 # start CRATE: proves it in the background.
@@ -58,11 +105,15 @@ start() {
     started="$started $1"
     begun=$((begun + 1))
     say "proving $1 ($begun of $count)"
+    slot=$(free_slot)
+    : >"$logs/$slot.taken"
     (
         trap - INT TERM
-        if prove "$1" >"$logs/$1.log" 2>&1 </dev/null; then
+        if prove "$1" "$slot" >"$logs/$1.log" 2>&1 </dev/null; then
+            rm -f "$logs/$slot.taken"
             : >"$logs/$1.done"
         else
+            rm -f "$logs/$slot.taken"
             : >"$logs/$1.failed"
         fi
     ) &
@@ -123,7 +174,7 @@ kill_jobs() {
 # shellcheck disable=SC2317
 stop() {
     kill_jobs
-    rm -rf "$logs/lock"
+    rm -rf "$logs/lock" "${copies:-}"
     say "stopped; what is proved stays, and the next call goes on from there"
     exit 130
 }
@@ -160,16 +211,17 @@ if [ -n "${waited:-}" ] && [ -x "$program" ]; then
     rm -rf "$logs/lock"
     exit 0
 fi
-rm -f "$logs"/*.done "$logs"/*.failed "$logs"/*.log "$program"
+rm -f "$logs"/*.done "$logs"/*.failed "$logs"/*.taken "$logs"/*.log "$program"
 : >"$logs/begun"
 uses >"$logs/uses"
 count=$(wc -l <"$logs/uses" | tr -d ' ')
 most=${WAVE_JOBS:-$(getconf _NPROCESSORS_ONLN 2>/dev/null || echo 2)}
+copy_sources
 started=
 begun=0
 from=$(date +%s)
 say "the program isn't built, or a source is newer. Each function is proved before the program is built:"
-say "$count crates, from scratch about 10 minutes on four processors; only what changed is proved again."
+say "$count crates, from scratch about a quarter of an hour on four processors; only what changed is proved again."
 say "The logs are $logs/NAME.log."
 while ! [ -f "$logs/wave.done" ]; do
     if ls "$logs"/*.failed >/dev/null 2>&1; then
@@ -182,10 +234,10 @@ if [ -f "$logs/wave.done" ]; then
     # what changed since the start is newer than the program
     touch -r "$logs/begun" "$program"
     say "built after $((($(date +%s) - from) / 60)) minutes and $((($(date +%s) - from) % 60)) seconds"
-    rm -rf "$logs/lock"
+    rm -rf "$logs/lock" "$copies"
     exit 0
 fi
 kill_jobs
 tell_failed
-rm -rf "$logs/lock"
+rm -rf "$logs/lock" "$copies"
 exit 1
