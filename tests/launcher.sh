@@ -129,7 +129,7 @@ build="env PATH=$scratch/bin:$PATH"
 {
     call $build "$clone/wave" show 'a b' '' '*'
     judge 'the words are passed on' prints '[show][a b][][*]'
-    judge 'crates that the program stands on, lower ones first' test "$(tr '\n' ' ' <"$scratch/proved")" = 'low middle wave '
+    judge 'crates that the program stands on, lower ones first' test "$(uniq "$scratch/proved" | tr '\n' ' ')" = 'low middle wave '
     judge 'a build says which crate of how many' says 'proving middle (2 of 3)'
     judge 'a build says where the log is' says "$clone/.build/"
     judge 'a build says how long' says 'minutes'
