@@ -1,0 +1,3 @@
+mod Lean
+mod Marks
+mod Passes

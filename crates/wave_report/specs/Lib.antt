@@ -1,0 +1,3 @@
+pub mod ArrayText
+pub mod Line
+pub mod RelationText

@@ -1,0 +1,5 @@
+//! The printed texts of relations and of arrays.
+#![tactic(auto)]
+
+pub mod arrays;
+pub mod relation;
