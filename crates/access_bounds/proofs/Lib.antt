@@ -1,0 +1,10 @@
+pub mod Alike
+pub mod Causes
+pub mod Closable
+pub mod Counted
+pub mod Firsts
+pub mod Inside
+pub mod Refusals
+pub mod Sides
+pub mod Sharing
+pub mod Transfer

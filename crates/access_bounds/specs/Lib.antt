@@ -1,0 +1,4 @@
+pub mod Accepted
+pub mod First
+pub mod Judged
+pub mod Shared

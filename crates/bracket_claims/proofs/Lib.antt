@@ -1,0 +1,3 @@
+pub mod Lines
+pub mod Systems
+pub mod Data

@@ -1,0 +1,6 @@
+//! What is claimed of the brackets of a nest, and that its systems of constraints are small.
+#![tactic(auto)]
+
+pub mod claim;
+pub mod laws;
+pub mod listing;
