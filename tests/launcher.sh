@@ -79,9 +79,10 @@ echo
 [ -z "${FAULT:-}" ] || echo "$FAULT" >&2
 exit "${STATUS:-0}"
 END
-# A stand-in for rt: it notes each crate, fails at the crate $REFUSED, and builds the stand-in.
+# A stand-in for rt: as rt does, it refuses a list with a crate that isn't there; it notes each crate, fails at the crate $REFUSED, and builds the stand-in.
 cat >"$scratch/bin/rt" <<END
 #!/bin/sh
+sed -n 's/^\([a-z_]*\):.*/\1/p' ../../crates.txt | while read -r crate; do [ -d "../\$crate" ] || exit 1; done || exit 1
 echo "\${PWD##*/}" >>"$scratch/proved"
 echo "a line of the log"
 [ "\${PWD##*/}" != "\${REFUSED:-}" ] || exit 1

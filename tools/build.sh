@@ -69,7 +69,12 @@ copy_sources() {
     copies=$(mktemp -d "${TMPDIR:-/tmp}/wave-build-XXXXXX") || exit 1
     for slot in $(seq "$most"); do
         mkdir -p "$copies/$slot/crates"
-        cp "$top/crates.txt" "$top/HANDLES" "$copies/$slot"
+        cp "$top/HANDLES" "$copies/$slot"
+        # of crates.txt the lines of the copied crates
+        awk 'NR == FNR { wanted[$1]; next }
+            { sub(/#.*/, "") }
+            /:/ { split($0, half, ":"); split(half[1], name, " "); if (name[1] in wanted) print }' \
+            "$logs/uses" "$top/crates.txt" >"$copies/$slot/crates.txt"
         cut -d ' ' -f 1 "$logs/uses" | while read -r crate; do
             mkdir "$copies/$slot/crates/$crate"
             for part in src specs proofs; do
