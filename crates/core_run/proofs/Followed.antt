@@ -11,6 +11,7 @@ use Rattle.core_run.specs.declared.machine.Core.{Core}
 use Rattle.core_run.specs.declared.machine.Event.{Event}
 use Rattle.core_run.specs.declared.machine.Event.TheVariants.{Looked, Read as Found, Wrote, FinishedTask, Ended}
 use Rattle.core_run.specs.Plain.{did, told}
+use Rattle.core_run.specs.Seats.{AreCaught}
 use Rattle.core_run.specs.Cores.{core_of, hows_of, next_of}
 use Rattle.core_run.specs.Links.{IsOf, IsGood}
 use Rattle.core_run.specs.Orders.{runs, looks_at, passed_at, looks_in, passed_in, looked_by, passed_by, range, Follows}
@@ -70,15 +71,16 @@ few_passes Ended = refl
 
 -- one event
 pub one : (c c' : Core) (k : ℕ) (ev : Event) → IsGood c → core_of c' ≡ did c.book (hows_of c k) k (core_of c) (stand_of (core_of c) k) (next_of c k) → ev ≡ told c.book (hows_of c k) k (core_of c) (stand_of (core_of c) k) (next_of c k)
-    → c'.scripts ≡ c.scripts → c'.book ≡ c.book → c'.hows ≡ c.hows → length c'.stands.stands ≡ length c.stands.stands → c'.stands.room ≡ c.stands.room →
+    → c'.scripts ≡ c.scripts → c'.book ≡ c.book → c'.hows ≡ c.hows → length c'.stands.stands ≡ length c.stands.stands → c'.stands.room ≡ c.stands.room → AreCaught c'.book c'.hows.items c'.stands →
     Follows c c' (k ∷ []) (looked_by ev) (passed_by ev)
-one c c' k ev good steps tells scripts book hows stands room =
+one c c' k ev good steps tells scripts book hows stands room caught =
     let moved : (w : Work) → IsOf w c → core_of c' ≡ event w k (core_of c) = (λ w of. steps ∙ step_is w c of k) in record {
       good = record {
         work = good.work;
         fit = good.fit;
         of = of_same good.work c c' scripts book hows room good.of;
         reached = (k ∷ good.reached.0, ap (event good.work k) good.reached.1 ∙ sym (moved good.work good.of));
+        caught = caught;
       };
       scripts = scripts;
       book = book;

@@ -13,6 +13,7 @@ use Rattle.core_run.specs.declared.machine.Core.{Core}
 use Rattle.core_book.specs.declared.book.Book.{Book}
 use Rattle.core_book.specs.declared.book.How.{How}
 use Rattle.core_book.specs.Hows.{how_at, progress_before, worked}
+use Rattle.core_run.specs.Seats.{AreCaught}
 use Rattle.core_run.specs.Cores.{core_of, hows_of}
 
 -- the instance of the book has the value of the instance g, and those before it in its row take no more registers than that row has read
@@ -37,9 +38,10 @@ pub record IsOf (w : Work) (c : Core) : Type 0 where
   pub scripts : length c.scripts.items ≡ length w.workers
   pub hows : length c.hows.items ≡ length w.workers
 
--- some fit work's core in one of its reached states
+-- some fit work's core in one of its reached states, in which the row of each worker is as far as it says
 pub record IsGood (c : Core) : Type 0 where
   pub work : Work
   pub fit : IsFit work
   pub of : IsOf work c
   pub reached : Reached work (core_of c)
+  pub caught : AreCaught c.book c.hows.items c.stands

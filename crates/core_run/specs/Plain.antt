@@ -1,5 +1,5 @@
 -- The machine over the actions of the code.
-use Rattle.std.specs.Prelude.{ℕ, ℤ, List, suc, ◌+◌, ◌<◌, ◌≤◌, nat_le, if◌then◌else◌, Option, Some, None, [], ◌∷◌, ◌++◌, length, slice_index, slice_set}
+use Rattle.std.specs.Prelude.{ℕ, List, suc, ◌+◌, ◌<◌, ◌≤◌, nat_le, if◌then◌else◌, Option, Some, None, [], ◌∷◌, ◌++◌, length, slice_index, slice_set}
 use Rattle.core_cells.specs.Cells.{at_cell, put}
 use Rattle.core_law.specs.Sequential.{kept}
 use Rattle.core_law.specs.Machine.{Stand, State, stand, moved}
@@ -9,7 +9,8 @@ use Rattle.core_book.specs.declared.book.Book.{Book}
 use Rattle.core_run.specs.declared.machine.Event.{Event}
 use Rattle.core_run.specs.declared.machine.Event.TheVariants.{Looked, Read as Found, Wrote, FinishedTask, Ended}
 use Rattle.core_book.specs.declared.book.How.{How}
-use Rattle.core_book.specs.Hows.{how_at, progress_before, worked}
+use Rattle.core_book.specs.Hows.{worked}
+use Rattle.core_run.specs.Seats.{IsThere}
 
 -- the worker k, which stands at t, does an action
 abbrev pub did : Book → List How → ℕ → State → Stand → Option Action → State
@@ -26,12 +27,6 @@ did book hows k c t (Some Finish) = record {
   cells = c.cells;
   stands = slice_set c.stands k (stand (suc t.place) []);
 }
-
--- the instance is one of the worker's, and the registers reach as far as those before it in its row
-pub record IsThere (book : Book) (hows : List How) (registers : List ℤ) (at : ℕ) : Type 0 where
-  pub inside : at < length hows
-  pub before : (how_at hows at).before ≤ at
-  pub enough : (progress_before book hows registers at).used ≤ length registers
 
 -- the action can be made within the room that there is
 abbrev pub HasRoom : Book → List How → ℕ → ℕ → State → Stand → Option Action → Type 0

@@ -31,6 +31,13 @@ impl Model for Script {
 }
 
 impl Script {
+    /// The actions of a `Vec`. It takes no memory.
+    pub fn from_vec(actions: Vec<Action>) -> Script
+        ensures { result ≡ actions.items }
+    {
+        Script { actions }
+    }
+
     /// The action at a place, and none past the end.
     pub fn at(&self, place: usize) -> Option<Action>
         ensures is { result ≡ slice_get self.now place }
@@ -56,6 +63,13 @@ impl Model for Hows {
 }
 
 impl Hows {
+    /// The instances of a `Vec`. It takes no memory.
+    pub fn from_vec(items: Vec<How>) -> Hows
+        ensures { result ≡ items.items }
+    {
+        Hows { items }
+    }
+
     pub fn as_slice(&self) -> &[How]
         ensures { result.now ≡ self.now }
     {

@@ -3,8 +3,8 @@ ghost use Rattle.std.specs.Prelude.{◌≡◌, ◌<◌, [], ◌∷◌, length};
 ghost use Rattle.core_law.specs.Works.{Work};
 ghost use Rattle.core_law.specs.Fit.{IsFit};
 ghost use Rattle.core_law.specs.Machine.{Reached};
-ghost use Rattle.core_book.specs.Hows.{worked};
-ghost use Rattle.core_run.specs.Plain.{did, told, HasRoom, IsThere};
+ghost use Rattle.core_run.specs.Seats.{AreCaught};
+ghost use Rattle.core_run.specs.Plain.{did, told, HasRoom};
 ghost use Rattle.core_run.specs.Cores.{core_of, hows_of, stand_in, next_of};
 ghost use Rattle.core_run.specs.Links.{IsOf, IsGood};
 ghost use Rattle.core_run.specs.Orders.{looked_by, passed_by, Follows};
@@ -12,8 +12,7 @@ ghost use Rattle.core_run.specs.Answers.{IsRight};
 
 use crate::action::{Action, Hows, Script};
 use crate::standings::Standings;
-use core_book::book::{Book, How};
-use core_book::row::Row;
+use core_book::book::Book;
 use core_law::laws::{
     actions_are_there, reads_are_sequential, registers_are_sequential, shapes_stay,
     writes_are_sequential,
@@ -50,6 +49,7 @@ impl Core {
         requires scripts { length self.old.scripts.items ≡ length self.old.stands.stands }
         requires hows { length self.old.hows.items ≡ length self.old.stands.stands }
         requires room { HasRoom self.old.book (hows_of self.old worker) self.old.stands.room worker (core_of self.old) (stand_in self.old worker) (next_of self.old worker) }
+        requires caught { AreCaught self.old.book self.old.hows.items self.old.stands }
         ensures step { core_of self.new ≡ did self.old.book (hows_of self.old worker) worker (core_of self.old) (stand_in self.old worker) (next_of self.old worker) }
         ensures answer { result ≡ told self.old.book (hows_of self.old worker) worker (core_of self.old) (stand_in self.old worker) (next_of self.old worker) }
         ensures scripts { self.new.scripts ≡ self.old.scripts }
@@ -57,6 +57,7 @@ impl Core {
         ensures hows { self.new.hows ≡ self.old.hows }
         ensures stands { length self.new.stands.stands ≡ length self.old.stands.stands }
         ensures room { self.new.stands.room ≡ self.old.stands.room }
+        ensures caught { AreCaught self.new.book self.new.hows.items self.new.stands }
     {
         let place = self.stands.place(worker);
         let Some(action) = self.scripts[worker].at(place) else {
@@ -77,10 +78,9 @@ impl Core {
                 Event::Read { cell, value }
             }
             Action::Write { begins, cell, at } => {
-                let registers = self.stands.registers(worker, begins);
-                let value = value_at(&self.book, self.hows[worker].as_slice(), registers, at);
+                let hows = self.hows[worker].as_slice();
+                let value = self.stands.work(worker, begins, &self.book, hows, at);
                 self.values.set(cell, value);
-                self.stands.pass(worker, begins);
                 Event::Wrote { cell, value }
             }
             Action::Finish => {
@@ -108,12 +108,4 @@ impl Core {
         writes_are_sequential();
         self.step(worker)
     }
-}
-
-fn value_at(book: &Book, hows: &[How], registers: &[i64], at: usize) -> i64
-    requires { IsThere book.now hows.now registers.now at }
-    ensures { result ≡ worked book.now hows.now registers.now at }
-{
-    let mut row = Row::begin(at - hows[at].before as usize);
-    row.value(book, hows, registers, at)
 }

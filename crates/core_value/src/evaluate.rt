@@ -67,7 +67,8 @@ pub fn evaluate<'a>(
     }
 }
 
-fn is_written(written: &[bool], array: ArrayId) -> bool
+/// Whether an array is written, by a list of flags.
+pub fn is_written(written: &[bool], array: ArrayId) -> bool
     ensures { result ≡ flagged written.now array }
 {
     let at = array.0 as usize;

@@ -18,8 +18,11 @@ step-requires-clause-room c = let g = c.requires.good in
     room_is g.work c.args.self.now g.of c.args.worker c.requires.worker (c.shapes_stay.ensures g.work _ g.fit g.reached)
     (λ p. c.actions_are_there.ensures g.work _ p g.fit) (c.registers_are_sequential.ensures g.work _ _ g.fit g.reached)
 
+pub step-requires-clause-caught : goal.step-requires-clause-caught
+step-requires-clause-caught c = c.requires.good.caught
+
 pub returns-clause-step : goal.returns-clause-step
-returns-clause-step c = let e = c.step.ensures in one c.args.self.now c.step.new.self c.args.worker c.step.result c.requires.good e.step e.answer e.scripts e.book e.hows e.stands e.room
+returns-clause-step c = let e = c.step.ensures in one c.args.self.now c.step.new.self c.args.worker c.step.result c.requires.good e.step e.answer e.scripts e.book e.hows e.stands e.room e.caught
 
 pub returns-clause-value : goal.returns-clause-value
 returns-clause-value c = λ w fit of reached. let d = core_of c.args.self.now in let k = c.args.worker in let t = stand_in c.args.self.now k in let does = of.does k (place d k) in record {

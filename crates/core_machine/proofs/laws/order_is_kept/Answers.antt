@@ -1,0 +1,5 @@
+use Rattle.core_machine.specs.FitWork.{plain}
+use Rattle.core_machine.proofs.laws.order_is_kept.Goals as goal
+
+pub returns : goal.returns
+returns c = λ w d fit reached. c.order_is_kept.ensures (plain w) d (c.nests_are_fit.ensures w.nest w.arrays w.values w.sched.workers fit) reached

@@ -1,0 +1,5 @@
+pub mod FitWork
+pub mod Machine
+pub mod Answers
+pub mod Replays
+pub mod TwoRows

@@ -1,0 +1,9 @@
+pub mod Extended
+pub mod Matched
+pub mod Moved
+pub mod Rowed
+pub mod Advanced
+pub mod Walked
+pub mod Going
+pub mod Flags
+pub mod Whole
