@@ -2,4 +2,5 @@
 #![tactic(auto)]
 
 pub mod arrays;
+pub mod laws;
 pub mod relation;
