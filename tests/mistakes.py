@@ -21,7 +21,7 @@ vector x n zero
 loop i
   set x[i] = b[i]
   for p in a.ptr[i]..a.diag[i]
-    set x[i] = x[i] - a.val[p] * x[a.col[p]]
+    set x[i] = x[i] - b[i]
   end
 end
 """
@@ -87,6 +87,9 @@ MISTAKES = [
     ("a bound from a vector", loop("  for p in 0..b[i]", 6), WORDS, "loop name line 6 wrong_kind", "declare `index`"),
     ("a property of a vector", loop("rising b", 3), WORDS, "loop name line 3 wrong_kind", "n+1 entries"),
     ("a loop's variable twice", loop("  for i in a.ptr[i]..a.diag[i]", 6), WORDS, "loop name line 6 twice", "choose another name"),
+    ("an index without a range", loop("    set x[i] = x[i] - a.val[p]", 7), WORDS, "loop unbounded line 7 bracket 3 low", "range a.ptr 0 nnz+1"),
+    ("the row before", loop("  set x[i] = x[i-1]"), WORDS, "loop unbounded line 5 bracket 2 low", "inside `when 0 <= ..`"),
+    ("the row after", loop("  set x[i] = x[i+1]"), WORDS, "loop unbounded line 5 bracket 2 high", "inside `when .. < n`"),
     ("no workers", {}, ["run", "a.loop", "a.mtx", "b.mtx"], "usage word 3", "1` to `64"),
     ("two workers", {}, ["run", "a.loop", "a.mtx", "2", "b.mtx"], "not built word 3", "use `1`"),
     ("a name that isn't there", {}, ["run", "a.loop", "a.mtx", "1", "c.mtx"], "read word 4", "isn't there"),

@@ -1,9 +1,11 @@
-//! Tests of acceptance: worked loops, and guards in one another.
+//! Tests of acceptance: worked loops, guards in one another, and a second body.
 #![tactic(auto)]
 
 #[cfg(test)]
 mod guards;
 #[cfg(test)]
 mod loops;
+#[cfg(test)]
+mod second;
 #[cfg(test)]
 mod texts;

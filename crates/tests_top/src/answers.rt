@@ -7,7 +7,7 @@ use wave_main::top::quiet_main;
 const ONE_MATRIX: &str = "%%MatrixMarket matrix coordinate integer general\n1 1 1\n1 1 1\n";
 
 const BY_COLUMNS: &str =
-    "matrix a csc\nvector x n file\nloop j\n  set x[j] = x[j] / a.val[a.diag[j]]\n  for p in a.diag[j]+1..a.ptr[j+1]\n    set x[a.row[p]] = x[a.row[p]] - a.val[p] * x[j]\n  end\nend\n";
+    "matrix a csc\nvector x n file\nrange a.ptr 0 nnz+1\nrange a.row 0 n\nrising a.ptr\nsorted a.row by a.ptr\ndiagonal a.diag of a.row by a.ptr\nloop j\n  set x[j] = x[j] / a.val[a.diag[j]]\n  for p in a.diag[j]+1..a.ptr[j+1]\n    set x[a.row[p]] = x[a.row[p]] - a.val[p] * x[j]\n  end\nend\n";
 
 const BY_COLUMNS_MATRIX: &str =
     "%%MatrixMarket matrix coordinate integer general\n4 4 6\n1 1 1\n2 2 1\n3 3 1\n4 4 1\n4 2 2\n4 3 3\n";
@@ -19,7 +19,8 @@ const NO_DIAGONAL: &str =
 
 const CHECK: [&str; 4] = ["check", "L", "A", "B"];
 
-const SCATTER: &str = "matrix a csr\nindex q n\nvector x n zero\nloop i\n  set x[q[i]] = 5\nend\n";
+const SCATTER: &str =
+    "matrix a csr\nindex q n\nvector x n zero\nrange q 0 n\nloop i\n  set x[q[i]] = 5\nend\n";
 
 const PLACES: &str = "%%MatrixMarket matrix array integer general\n3 1\n2\n0\n1\n";
 
@@ -84,11 +85,27 @@ fn the_first_faulty_file_is_named(rt: HostRuntime) -> Result<(), Fail> {
     let wide = "%%MatrixMarket matrix coordinate integer general\n2 3 0\n";
     let twice = "matrix a csr\nloop a\nend\n";
     let constant = "matrix a csr\nloop i\nwhen 1048577 < n\nend\nend\n";
+    let below = "matrix a csr\nindex q n\nvector x n zero\nloop i\n  set x[q[i]] = x[i-1]\nend\n";
+    let above = "matrix a csr\nvector x n zero\nvector y nnz zero\nloop i\n  set y[i] = 5\nend\n";
     let length = "shape length word 4 have 1 want 3\n";
     let table = [
         ("x\n", real, VECTOR, 3, "loop text line 1\n"),
         (twice, real, VECTOR, 4, "loop name line 2 twice\n"),
         (constant, real, VECTOR, 5, "loop limit line 3 constant\n"),
+        (
+            below,
+            real,
+            VECTOR,
+            6,
+            "loop unbounded line 5 bracket 1 low\n",
+        ),
+        (
+            above,
+            real,
+            VECTOR,
+            6,
+            "loop unbounded line 5 bracket 1 high\n",
+        ),
         (LOOP, real, "x", 9, "matrix word 2 field 4\n"),
         (LOOP, wide, "x", 9, "matrix word 4 header\n"),
         (LOOP, wide, VECTOR, 10, "shape rows 2 columns 3\n"),

@@ -3,7 +3,7 @@ use Rattle.std.proofs.Common.{ℕ, ◌≡◌, ◌≢◌, ◌⊎◌, inl, inr, Li
 use Rattle.std.specs.Prelude.{◌↔◌}
 use Rattle.wave_io.specs.Written.{grown}
 use Rattle.wave_main.specs.declared.status.Status.{Status}
-use Rattle.wave_main.specs.declared.status.Status.TheVariants.{Done, Usage, ReadFault, LoopText, LoopName, LoopLimit, MatrixText, Shape, Property, NotBuilt, WriteFault, Memory}
+use Rattle.wave_main.specs.declared.status.Status.TheVariants.{Done, Usage, ReadFault, LoopText, LoopName, LoopLimit, Unbounded, MatrixText, Shape, Property, NotBuilt, WriteFault, Memory}
 use Rattle.wave_main.specs.Answers.{Call, Changes, Ends, IsRefusal, IsSettled, AreFilesOf, HasNoFault, IsAnswer}
 use Rattle.wave_main.specs.Commands.{Prints, Refuses}
 use Rattle.wave_main.proofs.AnswerLaws.{one_refusal, no_refusal, one_text, told_prints, told_refuses}
@@ -34,6 +34,7 @@ refused_by ws files changes (Usage word) (calls, same) settled = called ws files
 refused_by ws files changes (LoopText line) (calls, same) settled = called ws files (LoopText line) calls
 refused_by ws files changes (LoopName line kind) (calls, same) settled = called ws files (LoopName line kind) calls
 refused_by ws files changes (LoopLimit line kind) (calls, same) settled = called ws files (LoopLimit line kind) calls
+refused_by ws files changes (Unbounded line bracket side) (calls, same) settled = called ws files (Unbounded line bracket side) calls
 refused_by ws files changes (MatrixText word cause) (calls, same) settled = called ws files (MatrixText word cause) calls
 refused_by ws files changes (Shape kind) (calls, same) settled = called ws files (Shape kind) calls
 refused_by ws files changes (Property property first second) (calls, same) settled = called ws files (Property property first second) calls
@@ -49,6 +50,7 @@ keeps_by ws files changes (Usage word) ends not_done not_fault = ends.1
 keeps_by ws files changes (LoopText line) ends not_done not_fault = ends.1
 keeps_by ws files changes (LoopName line kind) ends not_done not_fault = ends.1
 keeps_by ws files changes (LoopLimit line kind) ends not_done not_fault = ends.1
+keeps_by ws files changes (Unbounded line bracket side) ends not_done not_fault = ends.1
 keeps_by ws files changes (MatrixText word cause) ends not_done not_fault = ends.1
 keeps_by ws files changes (Shape kind) ends not_done not_fault = ends.1
 keeps_by ws files changes (Property property first second) ends not_done not_fault = ends.1
@@ -64,6 +66,7 @@ complete_by call files (Usage word) ends none fine = absurd (none (Usage word) e
 complete_by call files (LoopText line) ends none fine = absurd (none (LoopText line) ends.0)
 complete_by call files (LoopName line kind) ends none fine = absurd (none (LoopName line kind) ends.0)
 complete_by call files (LoopLimit line kind) ends none fine = absurd (none (LoopLimit line kind) ends.0)
+complete_by call files (Unbounded line bracket side) ends none fine = absurd (none (Unbounded line bracket side) ends.0)
 complete_by call files (MatrixText word cause) ends none fine = absurd (none (MatrixText word cause) ends.0)
 complete_by call files (Shape kind) ends none fine = absurd (none (Shape kind) ends.0)
 complete_by call files (Property property first second) ends none fine = absurd (none (Property property first second) ends.0)

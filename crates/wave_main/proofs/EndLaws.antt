@@ -4,7 +4,7 @@ use Rattle.std.specs.Prelude.{Result, Ok, Err, IsErrAnd, IfErr, OnOk}
 use Rattle.wave_io.specs.Faults.{Rose}
 use Rattle.wave_io.specs.Written.{grown, TookPart}
 use Rattle.wave_main.specs.declared.status.Status.{Status}
-use Rattle.wave_main.specs.declared.status.Status.TheVariants.{Done, Usage, ReadFault, LoopText, LoopName, LoopLimit, MatrixText, Shape, Property, NotBuilt, WriteFault, Memory}
+use Rattle.wave_main.specs.declared.status.Status.TheVariants.{Done, Usage, ReadFault, LoopText, LoopName, LoopLimit, Unbounded, MatrixText, Shape, Property, NotBuilt, WriteFault, Memory}
 use Rattle.wave_main.specs.Answers.{AreFilesOf, Changes, Ends, status_of}
 use Rattle.wave_main.specs.Commands.{Refuses, RefusesWords, inputs_of, stages}
 use Rattle.wave_main.specs.Making.{IsMade, IsMissed}
@@ -15,6 +15,7 @@ fault_ends : (ws files : List (List ℕ)) (changes : Changes) (status : Status) 
 fault_ends ws files changes (LoopText line) is calls same = (calls, same)
 fault_ends ws files changes (LoopName line kind) is calls same = (calls, same)
 fault_ends ws files changes (LoopLimit line kind) is calls same = (calls, same)
+fault_ends ws files changes (Unbounded line bracket side) is calls same = (calls, same)
 fault_ends ws files changes (MatrixText word cause) is calls same = (calls, same)
 fault_ends ws files changes (Shape kind) is calls same = (calls, same)
 fault_ends ws files changes (Property property first second) is calls same = (calls, same)

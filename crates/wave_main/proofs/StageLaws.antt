@@ -10,17 +10,23 @@ use Rattle.loop_core.specs.declared.decl.PropDecl.{PropDecl}
 use Rattle.loop_core.specs.Lists.{Lists}
 use Rattle.loop_syntax.specs.declared.refusal.LoopRefusal.{LoopRefusal}
 use Rattle.loop_syntax.specs.declared.refusal.LoopRefusal.TheVariants as loop_refusals
+use Rattle.loop_syntax.specs.declared.refusal.LimitKind.TheVariants.{Atoms}
 use Rattle.loop_syntax.proofs.TextLaws.{one_nest_of, one_reason, not_both}
 use Rattle.array_bind.specs.declared.shape.ShapeRefusal.{ShapeRefusal}
 use Rattle.array_bind.specs.declared.shape.ShapeRefusal.TheVariants as shape_refusals
+use Rattle.access_bounds.specs.declared.refusal.BoundsRefusal.{BoundsRefusal}
+use Rattle.access_bounds.specs.declared.refusal.BoundsRefusal.TheVariants as bounds_refusals
+use Rattle.access_bounds.specs.Accepted.{IsAccepted, IsCause}
+use Rattle.access_bounds.proofs.Refusals.{one-cause, no-cause}
 use Rattle.index_props.specs.Meanings.{Means, Passes}
 use Rattle.index_props.specs.Places.{FailsAt}
 use Rattle.prop_check.specs.Broken.{FirstBroken}
 use Rattle.prop_check.proofs.Found.{fails}
 use Rattle.prop_check.proofs.Unique.{once}
 use Rattle.wave_main.specs.declared.status.Status.{Status}
-use Rattle.wave_main.specs.declared.status.Status.TheVariants.{Done, Usage, ReadFault, Property, NotBuilt, WriteFault, Memory}
+use Rattle.wave_main.specs.declared.status.Status.TheVariants.{Done, Usage, ReadFault, LoopLimit, Unbounded, Property, NotBuilt, WriteFault, Memory}
 use Rattle.wave_main.specs.Binding.{binding_fault, index_arrays, shape_status}
+use Rattle.wave_main.specs.Bounds.{IsBoundsFault}
 use Rattle.wave_main.specs.Files.{Inputs}
 use Rattle.wave_main.specs.Loops.{IsLoop, IsLoopFault, loop_status}
 use Rattle.wave_main.specs.Matrices.{Parts, first_status, fault_of, matrix_status, matrix_fault, matrix_of, vectors_fault, vectors_of}
@@ -29,7 +35,7 @@ use Rattle.wave_main.specs.declared.input.Input.{Input}
 use Rattle.array_bind.specs.declared.bind.Bound.{Bound}
 use Rattle.array_bind.specs.Lists.{arrays_of, values_of, bound_of}
 use Rattle.loop_core.specs.declared.nest.Nest.{Nest}
-use Rattle.wave_main.specs.Stages.{Stage, OfLoop, OfMatrix, OfVectors, OfShapes, OfProperties, Misfits, Breaks, Calls, Accepts, AcceptAll, IsRefusedBy, array_stages, input_stages}
+use Rattle.wave_main.specs.Stages.{Stage, OfLoop, OfBounds, OfMatrix, OfVectors, OfShapes, OfProperties, Strays, Misfits, Breaks, Calls, Accepts, AcceptAll, IsRefusedBy, array_stages, input_stages}
 
 -- what files may be refused with: no other end of a call
 abbrev pub IsFault : Status → Type 0
@@ -87,11 +93,17 @@ loop_fault_faulty bytes status fault =
     let P : Status → Type 0 = λ s. IsFault s in
     elim fault [ inl (long, is) ↦ subst P (sym is) tt | inr (why, short, refused, is) ↦ subst P (sym is) (loop_faulty why) ]
 
+bounds_faulty : (nest : Nest) (status : Status) → IsBoundsFault nest status → IsFault status
+bounds_faulty nest status fault =
+    let P : Status → Type 0 = λ s. IsFault s in
+    elim fault [ inl (line, full, is) ↦ subst P (sym is) tt | inr (line, bracket, side, unbounded, is) ↦ subst P (sym is) tt ]
+
 is_faulty : (o : Option Status) (status : Status) → Faulty o → o ≡ Some status → IsFault status
 is_faulty o status h e = let P : Option Status → Type 0 = λ x. Faulty x in let f : Faulty (Some status) = subst P e h in f
 
 stage_faulty : (stage : Stage) (files : Inputs) (status : Status) → Calls stage files status → IsFault status
 stage_faulty OfLoop files status fault = loop_fault_faulty files.loop_file status fault
+stage_faulty OfBounds files status (nest, loop, fault) = bounds_faulty nest status fault
 stage_faulty OfMatrix files status e = is_faulty _ status (read_faulty 2 (matrix files.matrix)) e
 stage_faulty OfVectors files status e = is_faulty _ status (vectors_faulty files.first files.vectors) e
 stage_faulty OfShapes files status (nest, loop, e) = is_faulty _ status (mapped_faulty (shape_status files.first) (shape_faulty files.first) _) e
@@ -149,6 +161,36 @@ none_broken props a p f s all x =
     let P : List PropDecl → Type 0 = λ l. Passes l a in
     fails a x.broken.kind f s x.fails (inner_passes a x.earlier x.later x.broken (subst P x.stand all))
 
+-- ---- acceptance
+
+-- the status of a refusal
+abbrev bounds_status : BoundsRefusal → Status
+bounds_status (bounds_refusals.TermsFull line) = LoopLimit line Atoms
+bounds_status (bounds_refusals.Unbounded line bracket side) = Unbounded line bracket side
+bounds_status bounds_refusals.Memory = Memory
+
+-- why a nest isn't accepted, as the refusal of acceptance
+record Refused (nest : Nest) (status : Status) : Type 0 where
+  why : BoundsRefusal
+  cause : IsCause nest why
+  told : ¬ (why ≡ bounds_refusals.Memory)
+  is : status ≡ bounds_status why
+
+refused : (nest : Nest) (status : Status) → IsBoundsFault nest status → Refused nest status
+refused nest status fault = elim fault [
+  | inl (line, full, is) ↦ record { why = bounds_refusals.TermsFull line; cause = full; told = λ e. cc; is = is }
+  | inr (line, bracket, side, unbounded, is) ↦ record { why = bounds_refusals.Unbounded line bracket side; cause = unbounded; told = λ e. cc; is = is }
+]
+
+one_bounds_fault : (nest : Nest) (a b : Status) → IsBoundsFault nest a → IsBoundsFault nest b → a ≡ b
+one_bounds_fault nest a b x y =
+    let r = refused nest a x in
+    let s = refused nest b y in
+    r.is ∙ ap bounds_status (one-cause nest nest.props r.why s.why r.cause s.cause r.told s.told) ∙ sym s.is
+
+no_bounds_fault : (nest : Nest) (status : Status) → IsAccepted nest → ¬ IsBoundsFault nest status
+no_bounds_fault nest status accepted fault = let r = refused nest status fault in r.told (no-cause nest nest.props r.why accepted r.cause)
+
 -- ---- one status
 
 one_some : (o : Option Status) (a b : Status) → o ≡ Some a → o ≡ Some b → a ≡ b
@@ -176,6 +218,11 @@ loop_accepted files nest loop status fault = elim fault [
   | inr (why, short, refused, is) ↦ not_both (lines files.loop_file) nest why loop.has refused
 ]
 
+one_stray : (files : Inputs) (a b : Status) → Strays files a → Strays files b → a ≡ b
+one_stray files a b (nest, loop, x) (other, also, y) =
+    let P : Nest → Type 0 = λ n. IsBoundsFault n b in
+    one_bounds_fault nest a b x (subst P (one_loop files.loop_file other nest also loop) y)
+
 one_misfit : (files : Inputs) (a b : Status) → Misfits files a → Misfits files b → a ≡ b
 one_misfit files a b (nest, loop, x) (other, also, y) =
     let P : Nest → Type 0 = λ n. binding_fault files.first n.decls (matrix_of files.matrix) (vectors_of files.vectors) ≡ Some b in
@@ -189,6 +236,7 @@ one_break files a b (nest, p, f, s, loop, x, is) (other, q, g, t, again, y, also
 
 pub one_call : (stage : Stage) (files : Inputs) (a b : Status) → Calls stage files a → Calls stage files b → a ≡ b
 one_call OfLoop files a b x y = one_loop_fault files.loop_file a b x y
+one_call OfBounds files a b x y = one_stray files a b x y
 one_call OfMatrix files a b x y = one_some _ a b x y
 one_call OfVectors files a b x y = one_some _ a b x y
 one_call OfShapes files a b x y = one_misfit files a b x y
@@ -219,24 +267,44 @@ none_by_stages (stage ∷ later) files status (first, rest) x = elim x [
 pub none_some : (o : Option Status) (a : Status) → o ≡ None → ¬ (o ≡ Some a)
 none_some o a x y = let e : None ≡ Some a = sym x ∙ y in cc
 
+-- the loop of the files, which is accepted
+pub record IsAcceptedLoop (files : Inputs) (nest : Nest) : Type 0 where
+  pub is : IsLoop files.loop_file nest
+  pub accepted : IsAccepted nest
+
+-- what was read and then accepted
+pub accepted_loop : (files : Inputs) (read nest : Nest) → IsLoop files.loop_file read → (nest ≡ read) × IsAccepted read → IsAcceptedLoop files nest
+accepted_loop files read nest loop (same, accepted) =
+    let P : Nest → Type 0 = λ n. IsAcceptedLoop files n in
+    let there : IsAcceptedLoop files read = record { is = loop; accepted = accepted } in
+    subst P (sym same) there
+
 -- the stages before the shapes, of files that are read
 abbrev pub AreRead : Inputs → Nest → ℕ → Type 0
-AreRead files nest first = IsLoop files.loop_file nest × (matrix_fault files.matrix ≡ None) × (files.first ≡ first) × (vectors_fault first files.vectors ≡ None)
+AreRead files nest first = IsAcceptedLoop files nest × (matrix_fault files.matrix ≡ None) × (files.first ≡ first) × (vectors_fault first files.vectors ≡ None)
 
 abbrev pub Stopped : Inputs → Status → Type 0
 Stopped files status = (status ≡ Memory) ⊎ IsRefusedBy input_stages files status
 
-pub matrix_stops : (files : Inputs) (nest : Nest) (status : Status) → IsLoop files.loop_file nest → (status ≡ Memory) ⊎ (matrix_fault files.matrix ≡ Some status) → Stopped files status
-matrix_stops files nest status loop cause = elim cause [ inl want ↦ inl want | inr fault ↦ inr (inr (loop_accepted files nest loop, inl fault)) ]
+pub bounds_stop : (files : Inputs) (nest : Nest) (status : Status) → IsLoop files.loop_file nest → (status ≡ Memory) ⊎ IsBoundsFault nest status → Stopped files status
+bounds_stop files nest status loop cause = elim cause [ inl want ↦ inl want | inr fault ↦ inr (inr (loop_accepted files nest loop, inl (nest, loop, fault))) ]
+
+bounds_accepted : (files : Inputs) (nest : Nest) → IsAcceptedLoop files nest → Accepts OfBounds files
+bounds_accepted files nest loop status (other, also, fault) =
+    let P : Nest → Type 0 = λ n. IsBoundsFault n status in
+    no_bounds_fault nest status loop.accepted (subst P (one_loop files.loop_file other nest also loop.is) fault)
+
+pub matrix_stops : (files : Inputs) (nest : Nest) (status : Status) → IsAcceptedLoop files nest → (status ≡ Memory) ⊎ (matrix_fault files.matrix ≡ Some status) → Stopped files status
+matrix_stops files nest status loop cause = elim cause [ inl want ↦ inl want | inr fault ↦ inr (inr (loop_accepted files nest loop.is, inr (bounds_accepted files nest loop, inl fault))) ]
 
 matrix_accepted : (files : Inputs) → matrix_fault files.matrix ≡ None → Accepts OfMatrix files
 matrix_accepted files none status fault = none_some _ status none fault
 
-pub vectors_stop : (files : Inputs) (nest : Nest) (first : ℕ) (status : Status) → IsLoop files.loop_file nest → matrix_fault files.matrix ≡ None → files.first ≡ first
+pub vectors_stop : (files : Inputs) (nest : Nest) (first : ℕ) (status : Status) → IsAcceptedLoop files nest → matrix_fault files.matrix ≡ None → files.first ≡ first
     → (status ≡ Memory) ⊎ (vectors_fault first files.vectors ≡ Some status) → Stopped files status
 vectors_stop files nest first status loop none at cause = elim cause [
   | inl want ↦ inl want
-  | inr fault ↦ inr (inr (loop_accepted files nest loop, inr (matrix_accepted files none, inl (ap (λ n. vectors_fault n files.vectors) at ∙ fault))))
+  | inr fault ↦ inr (inr (loop_accepted files nest loop.is, inr (bounds_accepted files nest loop, inr (matrix_accepted files none, inl (ap (λ n. vectors_fault n files.vectors) at ∙ fault)))))
 ]
 
 vectors_accepted : (files : Inputs) (first : ℕ) → files.first ≡ first → vectors_fault first files.vectors ≡ None → Accepts OfVectors files
@@ -255,8 +323,8 @@ pub shapes_stop : (files : Inputs) (nest : Nest) (m : Parts) (vs : List (List �
 shapes_stop files nest m vs first status (loop, none, at, no_fault) m_is vs_is cause = elim cause [
   | inl want ↦ inl want
   | inr fault ↦
-      let misfit : Misfits files status = (nest, loop, left_shapes files nest m vs first m_is at vs_is ∙ fault) in
-      inr (inr (loop_accepted files nest loop, inr (matrix_accepted files none, inr (vectors_accepted files first at no_fault, inl misfit))))
+      let misfit : Misfits files status = (nest, loop.is, left_shapes files nest m vs first m_is at vs_is ∙ fault) in
+      inr (inr (loop_accepted files nest loop.is, inr (bounds_accepted files nest loop, inr (matrix_accepted files none, inr (vectors_accepted files first at no_fault, inl misfit)))))
 ]
 
 shapes_accepted : (files : Inputs) (nest : Nest) → IsLoop files.loop_file nest → binding_fault files.first nest.decls (matrix_of files.matrix) (vectors_of files.vectors) ≡ None → Accepts OfShapes files
@@ -271,20 +339,21 @@ bound_files files input m vs bound first (loop, matrix_none, at, vectors_none) m
     let d = input.nest.decls in
     let fits = left_shapes files input.nest m vs first m_is at vs_is ∙ none in (
       record {
-        is_loop = loop;
+        is_loop = loop.is;
+        accepted = loop.accepted;
         arrays = arrays ∙ ap (λ (b : Bound). b.arrays) bound_is ∙ ap (λ (x : List (List ℤ)). arrays_of d m.0 m.2 x) vs_is ∙ ap (λ (x : Parts). arrays_of d x.0 x.2 (vectors_of files.vectors)) (sym m_is);
         values = values ∙ ap (λ (b : Bound). b.values) bound_is ∙ ap (λ (x : List (List ℤ)). values_of d m.0 m.2 x) vs_is ∙ ap (λ (x : Parts). values_of d x.0 x.2 (vectors_of files.vectors)) (sym m_is);
       },
-      (loop_accepted files input.nest loop, (matrix_accepted files matrix_none, (vectors_accepted files first at vectors_none, (shapes_accepted files input.nest loop fits, tt)))),
+      (loop_accepted files input.nest loop.is, (bounds_accepted files input.nest loop, (matrix_accepted files matrix_none, (vectors_accepted files first at vectors_none, (shapes_accepted files input.nest loop.is fits, tt))))),
     )
 
 -- ---- the properties, after all that
 
 by_property : (files : Inputs) (status : Status) → AcceptAll array_stages files → Breaks files status → IsRefusedBy input_stages files status
-by_property files status (l, (m, (v, (s, none)))) broken = inr (l, inr (m, inr (v, inr (s, inl broken))))
+by_property files status (l, (b, (m, (v, (s, none))))) broken = inr (l, inr (b, inr (m, inr (v, inr (s, inl broken)))))
 
 pub property_stops : (files : Inputs) (status : Status) → AcceptAll array_stages files → (status ≡ Memory) ⊎ Breaks files status → Stopped files status
 property_stops files status all cause = elim cause [ inl want ↦ inl want | inr broken ↦ inr (by_property files status all broken) ]
 
 pub all_accept : (files : Inputs) → AcceptAll array_stages files → Accepts OfProperties files → AcceptAll input_stages files
-all_accept files (l, (m, (v, (s, none)))) passed = (l, (m, (v, (s, (passed, tt)))))
+all_accept files (l, (b, (m, (v, (s, none))))) passed = (l, (b, (m, (v, (s, (passed, tt))))))

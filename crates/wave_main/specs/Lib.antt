@@ -6,6 +6,7 @@ pub mod Fetching
 pub mod Loops
 pub mod Matrices
 pub mod Binding
+pub mod Bounds
 pub mod Stages
 pub mod Run
 pub mod Texts

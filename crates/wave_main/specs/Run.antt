@@ -1,6 +1,7 @@
 -- What words and files are: a loop with its arrays, and the workers; and the text of its run.
 use Rattle.std.specs.Prelude.{◌≡◌, ℕ, List, Some}
 use Rattle.loop_core.specs.Sequence.{sequential}
+use Rattle.access_bounds.specs.Accepted.{IsAccepted}
 use Rattle.wave_words.specs.Forms.{number}
 use Rattle.wave_main.specs.declared.input.Input.{Input}
 use Rattle.wave_main.specs.ArrayText.{arrays_text}
@@ -8,9 +9,10 @@ use Rattle.wave_main.specs.Binding.{data_arrays, index_arrays}
 use Rattle.wave_main.specs.Files.{Inputs, word_of}
 use Rattle.wave_main.specs.Loops.{IsLoop}
 
--- the loop of the files with its arrays
+-- the loop of the files, none of whose accesses can leave its array, with its arrays
 pub record IsInput (files : Inputs) (input : Input) : Type 0 where
   pub is_loop : IsLoop files.loop_file input.nest
+  pub accepted : IsAccepted input.nest
   pub arrays : input.arrays ≡ index_arrays input.nest.decls files
   pub values : input.values ≡ data_arrays input.nest.decls files
 

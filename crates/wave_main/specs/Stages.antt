@@ -5,16 +5,22 @@ use Rattle.prop_check.specs.Broken.{FirstBroken}
 use Rattle.wave_main.specs.declared.status.Status.{Status}
 use Rattle.wave_main.specs.declared.status.Status.TheVariants.{Property}
 use Rattle.wave_main.specs.Binding.{binding_fault, index_arrays}
+use Rattle.wave_main.specs.Bounds.{IsBoundsFault}
 use Rattle.wave_main.specs.Files.{Inputs}
 use Rattle.wave_main.specs.Loops.{IsLoop, IsLoopFault}
 use Rattle.wave_main.specs.Matrices.{matrix_fault, matrix_of, vectors_fault, vectors_of}
 
 pub data Stage : Type 0 where
   OfLoop : Stage
+  OfBounds : Stage
   OfMatrix : Stage
   OfVectors : Stage
   OfShapes : Stage
   OfProperties : Stage
+
+-- the loop isn't accepted, so an access of it might leave its array
+abbrev pub Strays : Inputs → Status → Type 0
+Strays files status = (nest : Nest) × IsLoop files.loop_file nest × IsBoundsFault nest status
 
 -- the first shape of the files that doesn't fit the loop
 abbrev pub Misfits : Inputs → Status → Type 0
@@ -32,6 +38,7 @@ Breaks files status =
 -- a stage refuses the files with a status
 abbrev pub Calls : Stage → Inputs → Status → Type 0
 Calls OfLoop files status = IsLoopFault files.loop_file status
+Calls OfBounds files status = Strays files status
 Calls OfMatrix files status = matrix_fault files.matrix ≡ Some status
 Calls OfVectors files status = vectors_fault files.first files.vectors ≡ Some status
 Calls OfShapes files status = Misfits files status
@@ -52,7 +59,7 @@ IsRefusedBy (stage ∷ later) files status = Calls stage files status ⊎ (Accep
 
 -- the stages of arrays, properties aside, and all stages of a loop with its arrays
 abbrev pub array_stages : List Stage
-array_stages = OfLoop ∷ OfMatrix ∷ OfVectors ∷ OfShapes ∷ []
+array_stages = OfLoop ∷ OfBounds ∷ OfMatrix ∷ OfVectors ∷ OfShapes ∷ []
 
 abbrev pub input_stages : List Stage
-input_stages = OfLoop ∷ OfMatrix ∷ OfVectors ∷ OfShapes ∷ OfProperties ∷ []
+input_stages = OfLoop ∷ OfBounds ∷ OfMatrix ∷ OfVectors ∷ OfShapes ∷ OfProperties ∷ []

@@ -8,12 +8,14 @@ use Rattle.mtx_read.specs.declared.refusal.EntryKind.{EntryKind}
 use Rattle.mtx_read.specs.declared.refusal.EntryKind.TheVariants as entries
 use Rattle.mtx_read.specs.declared.refusal.BigKind.{BigKind}
 use Rattle.mtx_read.specs.declared.refusal.BigKind.TheVariants as bigs
+use Rattle.access_bounds.specs.declared.refusal.Side2.{Side2}
+use Rattle.access_bounds.specs.declared.refusal.Side2.TheVariants.{Low, High}
 use Rattle.wave_main.specs.declared.status.MtxFault.{MtxFault}
 use Rattle.wave_main.specs.declared.status.MtxFault.TheVariants as faults
 use Rattle.wave_main.specs.declared.status.ShapeKind.{ShapeKind}
 use Rattle.wave_main.specs.declared.status.ShapeKind.TheVariants as shapes
 use Rattle.wave_main.specs.declared.status.Status.{Status}
-use Rattle.wave_main.specs.declared.status.Status.TheVariants.{Done, Usage, ReadFault, LoopText, LoopName, LoopLimit, MatrixText, Shape, Property, NotBuilt, WriteFault, Memory}
+use Rattle.wave_main.specs.declared.status.Status.TheVariants.{Done, Usage, ReadFault, LoopText, LoopName, LoopLimit, Unbounded, MatrixText, Shape, Property, NotBuilt, WriteFault, Memory}
 
 abbrev pub code_of : Status → ℕ
 code_of Done = 0
@@ -21,6 +23,7 @@ code_of (Usage word) = 2
 code_of (LoopText line) = 3
 code_of (LoopName line kind) = 4
 code_of (LoopLimit line kind) = 5
+code_of (Unbounded line bracket side) = 6
 code_of (ReadFault word) = 7
 code_of WriteFault = 8
 code_of (MatrixText word cause) = 9
@@ -58,6 +61,10 @@ limit_word limits.Depth = codes "depth"
 limit_word limits.References = codes "references"
 limit_word limits.Atoms = codes "atoms"
 
+abbrev pub side_word : Side2 → List ℕ
+side_word Low = codes "low"
+side_word High = codes "high"
+
 abbrev pub entry_word : EntryKind → List ℕ
 entry_word entries.Words = codes "words"
 entry_word entries.Number = codes "number"
@@ -94,6 +101,7 @@ fault_words (ReadFault word) = codes "read" ∷ codes "word" ∷ decimal word �
 fault_words (LoopText n) = codes "loop" ∷ codes "text" ∷ codes "line" ∷ decimal n ∷ []
 fault_words (LoopName n kind) = codes "loop" ∷ codes "name" ∷ codes "line" ∷ decimal n ∷ name_word kind ∷ []
 fault_words (LoopLimit n kind) = codes "loop" ∷ codes "limit" ∷ codes "line" ∷ decimal n ∷ limit_word kind ∷ []
+fault_words (Unbounded n bracket side) = codes "loop" ∷ codes "unbounded" ∷ codes "line" ∷ decimal n ∷ codes "bracket" ∷ decimal bracket ∷ side_word side ∷ []
 fault_words (MatrixText word cause) = matrix_words word cause
 fault_words (Shape kind) = shape_words kind
 fault_words (Property property first second) = codes "property" ∷ decimal property ∷ codes "first" ∷ decimal first ∷ codes "second" ∷ decimal second ∷ []

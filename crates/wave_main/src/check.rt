@@ -37,7 +37,7 @@ fn check_text(alloc: Global, files: InputBytes, first: u32) -> Result<Vec<u8>, S
         → MatchResult result (λ text. CheckPrints inputs text.items × AcceptAll input_stages inputs) (λ status. (status ≡ Status.Memory) ⊎ IsRefusedBy input_stages inputs status) }
 {
     let input = input_of(alloc, files, first)?;
-    let text = passed_text(alloc, input.nest.props.as_slice().len())?;
+    let text = passed_text(alloc, input.nest.nest().props.as_slice().len())?;
     Ok(text)
 }
 

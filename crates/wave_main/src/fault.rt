@@ -1,9 +1,10 @@
 // The line that says why a call ended.
 ghost use Rattle.std.specs.Prelude.{◌≡◌, ◌≤◌, length};
-ghost use Rattle.wave_main.specs.Status.{spaced, name_word, limit_word, entry_word, big_word, matrix_words, shape_words, fault_line};
+ghost use Rattle.wave_main.specs.Status.{spaced, name_word, limit_word, side_word, entry_word, big_word, matrix_words, shape_words, fault_line};
 
 use crate::line::{Piece, ROOM, line_of, one, one_named, two};
 use crate::status::{MtxFault, ShapeKind, Status};
+use access_bounds::refusal::Side2;
 use arrayvec::ArrayString;
 use loop_syntax::refusal::{LimitKind, NameKind};
 use mtx_read::refusal::{BigKind, EntryKind};
@@ -33,6 +34,16 @@ fn limit_word(kind: LimitKind) -> &'static str
         LimitKind::Depth => "depth",
         LimitKind::References => "references",
         LimitKind::Atoms => "atoms",
+    }
+}
+
+fn side_word(side: Side2) -> &'static str
+    ensures word { result.now ≡ side_word side }
+    ensures short { length result.now ≤ 20 }
+{
+    match side {
+        Side2::Low => "low",
+        Side2::High => "high",
     }
 }
 
@@ -142,6 +153,18 @@ fn shape_line(kind: ShapeKind) -> ArrayString<ROOM>
     }
 }
 
+fn unbounded_line(line: u32, bracket: u32, side: Side2) -> ArrayString<ROOM>
+    ensures { result.bytes ≡ fault_line (Status.Unbounded line bracket side) }
+{
+    line_of(&[
+        Piece::Text("loop unbounded line"),
+        Piece::Number(line as u64),
+        Piece::Text("bracket"),
+        Piece::Number(bracket as u64),
+        Piece::Text(side_word(side)),
+    ])
+}
+
 fn property_line(property: u32, first: u64, second: u64) -> ArrayString<ROOM>
     ensures { result.bytes ≡ fault_line (Status.Property property first second) }
 {
@@ -170,6 +193,11 @@ pub fn fault_line(status: Status) -> ArrayString<ROOM>
         Status::LoopLimit { line, kind } => {
             one_named("loop limit line", line as u64, limit_word(kind))
         }
+        Status::Unbounded {
+            line,
+            bracket,
+            side,
+        } => unbounded_line(line, bracket, side),
         Status::MatrixText { word, cause } => matrix_line(word, cause),
         Status::Shape(kind) => shape_line(kind),
         Status::Property {

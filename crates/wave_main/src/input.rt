@@ -8,20 +8,21 @@ ghost use Rattle.wave_main.specs.Run.{IsInput};
 ghost use Rattle.wave_main.specs.Stages.{AcceptAll, IsRefusedBy, Breaks, Accepts, OfProperties, array_stages, input_stages};
 
 use crate::bind::bound;
+use crate::bounds::accepted;
 use crate::fetch::InputBytes;
 use crate::loops::read_loop;
 use crate::matrices::{matrix_of, vectors_of};
 use crate::status::Status;
+use access_bounds::accept::Accepted;
 use loop_core::arrays::Arrays;
-use loop_core::nest::Nest;
 use loop_core::values::Values;
 use prop_check::check::{CheckRefusal, check};
 use std::alloc::Global;
 
-/// A loop with its arrays.
+/// An accepted loop with its arrays.
 #[derive(Drop)]
 pub struct Input {
-    pub nest: Nest,
+    pub nest: Accepted,
     pub arrays: Arrays,
     pub values: Values,
 }
@@ -36,10 +37,11 @@ fn bound_input(alloc: Global, files: InputBytes, first: u32) -> Result<Input, St
     ensures few { IfOk result (λ input. length (sizes input.nest.decls) ≤ 64) }
     ensures few_properties { IfOk result (λ input. length input.nest.props < 2 ^ 32) }
 {
-    let nest = read_loop(alloc, files.loop_file)?;
+    let read = read_loop(alloc, files.loop_file)?;
+    let nest = accepted(alloc, read)?;
     let matrix = matrix_of(alloc, files.matrix)?;
     let vectors = vectors_of(alloc, first, files.vectors.as_slice())?;
-    let bound = bound(alloc, &nest, matrix, vectors, first)?;
+    let bound = bound(alloc, nest.nest(), matrix, vectors, first)?;
     Ok(Input {
         nest,
         arrays: bound.arrays,
@@ -53,7 +55,7 @@ fn check_properties(alloc: Global, input: &Input) -> Result<(), Status>
     ensures { (inputs : Inputs) → IsInput inputs input.now
         → MatchResult result (λ _. Accepts OfProperties inputs) (λ status. (status ≡ Status.Memory) ⊎ Breaks inputs status) }
 {
-    match check(alloc, input.nest.props.as_slice(), &input.arrays) {
+    match check(alloc, input.nest.nest().props.as_slice(), &input.arrays) {
         Ok(_) => Ok(()),
         Err(CheckRefusal::Memory) => Err(Status::Memory),
         Err(

@@ -2,6 +2,7 @@
 #![tactic(auto)]
 
 mod bind;
+mod bounds;
 mod check;
 mod commands;
 mod fault;

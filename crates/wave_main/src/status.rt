@@ -2,6 +2,7 @@
 ghost use Rattle.std.specs.Prelude.{◌≡◌};
 ghost use Rattle.wave_main.specs.Status.{code_of};
 
+use access_bounds::refusal::Side2;
 use loop_syntax::refusal::{LimitKind, NameKind};
 use mtx_read::refusal::{BigKind, EntryKind};
 use std::alloc::{AllocError, AllocFailed};
@@ -64,6 +65,12 @@ pub enum Status {
         line: u32,
         kind: LimitKind,
     },
+    /// The first bracket of the loop of which a bound can't be derived, and the side of it.
+    Unbounded {
+        line: u32,
+        bracket: u32,
+        side: Side2,
+    },
     /// The first file that is no matrix or vector.
     MatrixText {
         word: u32,
@@ -99,6 +106,7 @@ impl Status {
             Status::LoopText { .. } => 3,
             Status::LoopName { .. } => 4,
             Status::LoopLimit { .. } => 5,
+            Status::Unbounded { .. } => 6,
             Status::ReadFault { .. } => 7,
             Status::WriteFault => 8,
             Status::MatrixText { .. } => 9,

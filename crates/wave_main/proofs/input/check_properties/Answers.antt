@@ -1,5 +1,6 @@
 use Rattle.std.proofs.Common.{List, subst}
 use Rattle.loop_core.specs.declared.decl.PropDecl.{PropDecl}
+use Rattle.loop_core.specs.declared.nest.Nest.{Nest}
 use Rattle.index_props.specs.Meanings.{Passes}
 use Rattle.wave_main.proofs.RunLaws.{passed}
 use Rattle.wave_main.proofs.input.check_properties.Goals as goal
@@ -7,4 +8,5 @@ use Rattle.wave_main.proofs.input.check_properties.Goals as goal
 pub returns-in-Ok : goal.returns-in-Ok
 returns-in-Ok c inputs is =
     let P : List PropDecl → Type 0 = λ l. Passes l c.args.input.now.arrays in
-    passed inputs c.args.input.now is (subst P c.as_slice.ensures c.in-Ok.ensures.passes)
+    let Q : Nest → Type 0 = λ n. Passes n.props c.args.input.now.arrays in
+    passed inputs c.args.input.now is (subst Q c.nest.ensures.nest (subst P c.as_slice.ensures c.in-Ok.ensures.passes))
