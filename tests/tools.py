@@ -38,7 +38,7 @@ def wave_module():
 
 
 def helps():
-    for tool in ("wave.py", "check_matrix", "to_mtx", "faults.py", "map.py", "picture.py"):
+    for tool in ("wave.py", "check_matrix", "to_mtx", "why", "faults.py", "map.py", "picture.py"):
         for word in ("--help", "-h"):
             status, out, err = call([os.path.join(TOOLS, tool), word])
             CASES.judge(f"{tool} {word}", status == 0 and len(out) > 100 and not err, err)
@@ -102,6 +102,23 @@ def check_matrix(folder):
         CASES.judge(f"check_matrix {case}", status == 1 and not out and said in err, err)
     status, out, err = call([tool, os.path.join(folder, "nowhere.mtx")])
     CASES.judge("check_matrix of no file", status == 1 and "nowhere.mtx" in err, err)
+
+
+def why(folder):
+    tool = os.path.join(TOOLS, "why")
+    loop = os.path.join(EXAMPLES, "forward", "unit.loop")
+    said = ["1 10:1 12:4 true kept", "2 12:1 12:4 true covered 1", "3 12:2 12:1 anti dropped"]
+    stand_in = written(folder, "explains", "#!/bin/sh\n" + "".join(f"echo relation {line}\n" for line in said))
+    os.chmod(stand_in, 0o755)
+    status, out, err = call([tool, loop], WAVE_PROGRAM=stand_in)
+    CASES.same("why ends well", (status, err), (0, ""))
+    for part in ('class="kept"', 'class="covered"', 'class="dropped"', "x[a.col[p]]", "covered by 1"):
+        CASES.judge(f"why draws {part}", part in out, out[:200])
+    CASES.judge("why draws a box for each reference", out.count('class="reference"') == 4, out[:200])
+    stand_in = written(folder, "refuses", "#!/bin/sh\necho 'loop text line 2' >&2\nexit 3\n")
+    os.chmod(stand_in, 0o755)
+    status, out, err = call([tool, loop], WAVE_PROGRAM=stand_in)
+    CASES.judge("why of a loop that is refused", status == 1 and not out and "loop text line 2" in err, err)
 
 
 def refused(case, said, function, *words):
@@ -220,6 +237,7 @@ def main():
     to_mtx()
     with scratch() as folder:
         check_matrix(folder)
+        why(folder)
         wave_without_program(folder)
     with_program(program_of(sys.argv))
     return CASES.end()

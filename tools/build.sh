@@ -226,7 +226,7 @@ started=
 begun=0
 from=$(date +%s)
 say "the program isn't built, or a source is newer. Each function is proved before the program is built:"
-say "$count crates, from scratch about a quarter of an hour on four processors; only what changed is proved again."
+say "$count crates, from scratch about half an hour on four processors; only what changed is proved again."
 say "The logs are $logs/NAME.log."
 while ! [ -f "$logs/wave.done" ]; do
     if ls "$logs"/*.failed >/dev/null 2>&1; then

@@ -9,7 +9,8 @@ use std::io;
 use std::process::ExitCode;
 use std::time::Instant;
 
-fn accepted_copy(alloc: Global, nest: &Nest) -> Result<Accepted, BoundsRefusal>
+/// Asks whether a copy of the nest is accepted.
+pub fn accepted_copy(alloc: Global, nest: &Nest) -> Result<Accepted, BoundsRefusal>
     requires { IsNest nest.now }
 {
     let nest = nest.copy(alloc)?;

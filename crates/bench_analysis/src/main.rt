@@ -1,15 +1,19 @@
 //! Times the analysis of the loop in a file.
 //!
-//! The words are `accept`, the file and how many turns. What acceptance says goes to standard output,
-//! the least time of a turn to standard error.
+//! The words are `accept` or `verdicts`, the file and how many turns: what acceptance says, or how many
+//! relations there are of each verdict, goes to standard output, the least time of a turn to standard
+//! error. `why`, the file and 0: for each dropped relation its number and those of the properties,
+//! without repeats, that its certificate uses.
 #![tactic(auto)]
 
 ghost use Rattle.std.specs.Prelude.{IfSome};
 ghost use Rattle.loop_core.specs.IsNest.{IsNest};
 
 mod accepting;
+mod judging;
 
-use accepting::bench_accept;
+use accepting::{accepted_copy, bench_accept};
+use judging::{bench_verdicts, why};
 use loop_core::nest::Nest;
 use loop_laws::laws::what_is_read_is_a_nest;
 use loop_syntax::read::read;
@@ -34,7 +38,7 @@ fn nest_of(alloc: Global, text: &[u8]) -> Option<Nest>
 }
 
 fn usage(rt: &HostRuntime) -> io::Result<ExitCode> {
-    eprintln!(rt; "usage: bench_analysis accept FILE TURNS")?;
+    eprintln!(rt; "usage: bench_analysis accept|verdicts|why FILE TURNS")?;
     Ok(ExitCode::from(2))
 }
 
@@ -43,7 +47,27 @@ fn bench(rt: &HostRuntime, mode: &str, nest: &Nest, turns: u32) -> io::Result<Ex
 {
     match mode {
         "accept" => bench_accept(rt, nest, turns),
+        "verdicts" => bench_judged(rt, nest, turns),
+        "why" => show_why(rt, nest),
         _ => usage(rt),
+    }
+}
+
+fn bench_judged(rt: &HostRuntime, nest: &Nest, turns: u32) -> io::Result<ExitCode>
+    requires { IsNest nest.now }
+{
+    match accepted_copy(rt.alloc(), nest) {
+        Ok(loop_in) => bench_verdicts(rt, &loop_in, turns),
+        Err(_) => bench_accept(rt, nest, 0),
+    }
+}
+
+fn show_why(rt: &HostRuntime, nest: &Nest) -> io::Result<ExitCode>
+    requires { IsNest nest.now }
+{
+    match accepted_copy(rt.alloc(), nest) {
+        Ok(loop_in) => why(rt, &loop_in),
+        Err(_) => bench_accept(rt, nest, 0),
     }
 }
 

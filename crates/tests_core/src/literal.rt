@@ -116,11 +116,18 @@ impl Lister {
         Ok(())
     }
 
+    fn put_row(&mut self, work: &Work, row: RowId) -> Result<(), Memory>
+        requires { body_depth work.now.nest.body ≤ 5 }
+    {
+        walk_row(&work.nest, &work.arrays, row, self)?;
+        Ok(())
+    }
+
     fn put_rows(&mut self, work: &Work, rows: &[RowId]) -> Result<(), Memory>
         requires { body_depth work.now.nest.body ≤ 5 }
     {
         for row in rows {
-            walk_row(&work.nest, &work.arrays, *row, self)?;
+            self.put_row(work, *row)?;
         }
         Ok(())
     }

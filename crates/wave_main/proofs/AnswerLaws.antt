@@ -1,8 +1,15 @@
 -- At most one refusal stands, none beside a text, and a command has one text.
-use Rattle.std.proofs.Common.{ℕ, ℤ, ◌≡◌, inl, inr, List, Option, Some, sym, ◌∙◌, ap, subst}
+use Rattle.std.proofs.Common.{ℕ, ℤ, ◌+◌, ◌≡◌, inl, inr, List, [], ◌∷◌, map, Option, Some, refl, sym, ◌∙◌, ap, subst}
 use Rattle.loop_core.specs.declared.nest.Nest.{Nest}
 use Rattle.loop_core.specs.Lists.{Lists}
 use Rattle.loop_print.specs.PrintText.{nest_text}
+use Rattle.uf_constraints.specs.declared.system.Relation.{Relation}
+use Rattle.uf_constraints.specs.Relations.{relations}
+use Rattle.dep_simplify.specs.declared.verdict.Verdict.{Verdict}
+use Rattle.dep_simplify.specs.declared.verdict.Verdict.TheVariants as verdicts
+use Rattle.dep_simplify.specs.Verdicts.{AreVerdicts, bare}
+use Rattle.dep_simplify.proofs.Unique.{one_list}
+use Rattle.wave_report.specs.RelationText.{relation_text}
 use Rattle.wave_words.specs.Forms.{number}
 use Rattle.wave_words.specs.declared.form.Form.{Form}
 use Rattle.wave_words.specs.declared.form.Form.TheVariants as forms
@@ -14,7 +21,7 @@ use Rattle.wave_main.specs.Commands.{IsText, Prints, Refuses, inputs_of, stages}
 use Rattle.wave_main.specs.Files.{Inputs, word_of}
 use Rattle.wave_main.specs.Run.{IsInput, IsWork, Work, run_text}
 use Rattle.wave_main.specs.Stages.{AcceptAll, IsRefusedBy}
-use Rattle.wave_main.specs.Texts.{passed_text}
+use Rattle.wave_main.specs.Texts.{ExplainPrints, passed_text, relation_lines, said}
 use Rattle.wave_main.proofs.FileLaws.{same_inputs}
 use Rattle.wave_main.proofs.StageLaws.{one_by_stages, none_by_stages, one_loop}
 use Rattle.wave_main.proofs.WordLaws.{one_form, one_word, built_stands}
@@ -67,15 +74,41 @@ one_work ws files a b x y =
     let two : record { input = b.input; workers = a.workers } ≡ b = ap (λ k. record { input = b.input; workers = k }) w in
     one ∙ two
 
+-- verdicts that agree, certificates aside, are printed alike
+said_bare : (v : Verdict) → said (bare v) ≡ said v
+said_bare (verdicts.Dropped cert) = refl
+said_bare (verdicts.Covered number) = refl
+said_bare verdicts.Kept = refl
+
+bare_lines : (n : ℕ) (rs : List Relation) (vs : List Verdict) → relation_lines n rs (map bare vs) ≡ relation_lines n rs vs
+bare_lines n [] vs = refl
+bare_lines n (r ∷ rs) [] = refl
+bare_lines n (r ∷ rs) (v ∷ vs) =
+    let first : relation_text n r.first r.second (said (bare v)) ≡ relation_text n r.first r.second (said v) = ap (relation_text n r.first r.second) (said_bare v) in
+    let rest : relation_lines (n + 1) rs (map bare vs) ≡ relation_lines (n + 1) rs vs = bare_lines (n + 1) rs vs in
+    cc
+
+one_explained : (files : Inputs) (t u : List ℕ) → ExplainPrints files t → ExplainPrints files u → t ≡ u
+one_explained files t u x y =
+    let same : y.nest ≡ x.nest = one_loop files.loop_file y.nest x.nest y.is_loop x.is_loop in
+    let P : Nest → Type 0 = λ n. AreVerdicts n y.verdicts in
+    let list : map bare x.verdicts ≡ map bare y.verdicts = one_list x.nest x.verdicts y.verdicts x.are_verdicts (subst P same y.are_verdicts) in
+    x.printed
+    ∙ sym (bare_lines 1 (relations x.nest) x.verdicts)
+    ∙ ap (relation_lines 1 (relations x.nest)) list
+    ∙ bare_lines 1 (relations x.nest) y.verdicts
+    ∙ ap (λ (n : Nest). relation_lines 1 (relations n) y.verdicts) (sym same)
+    ∙ sym y.printed
+
 pub one_text_of : (form : Form) (ws : List (List ℕ)) (files : Inputs) (t u : List ℕ) → IsText form ws files t → IsText form ws files u → t ≡ u
 one_text_of forms.Run ws files t u x y = x.printed ∙ ap (λ (w : Work). run_text w.input) (one_work ws files x.work y.work x.is_work y.is_work) ∙ sym y.printed
 one_text_of forms.Check ws files t u x y = x.printed ∙ ap passed_text (one_loop files.loop_file x.nest y.nest x.is_loop y.is_loop) ∙ sym y.printed
+one_text_of forms.Explain ws files t u x y = one_explained files t u x y
 one_text_of forms.Show ws files t u x y = x.printed ∙ ap nest_text (one_loop files.loop_file x.nest y.nest x.is_loop y.is_loop) ∙ sym y.printed
 one_text_of forms.DemoGrid ws files t u x y = absurd x
 one_text_of forms.DemoLower ws files t u x y = absurd x
 one_text_of forms.Plan ws files t u x y = absurd x
 one_text_of forms.Replay ws files t u x y = absurd x
-one_text_of forms.Explain ws files t u x y = absurd x
 
 pub one_text : (ws files : List (List ℕ)) (t u : List ℕ) → Prints ws files t → Prints ws files u → t ≡ u
 one_text ws files t u (form, built, accept, is) (again, also, accepted, other) =

@@ -7,3 +7,4 @@ pub mod AnswerOf
 pub mod MatrixLaws
 pub mod FewLaws
 pub mod RunLaws
+pub mod Explained

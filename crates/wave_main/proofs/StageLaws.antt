@@ -289,7 +289,7 @@ Stopped files status = (status ≡ Memory) ⊎ IsRefusedBy input_stages files st
 pub bounds_stop : (files : Inputs) (nest : Nest) (status : Status) → IsLoop files.loop_file nest → (status ≡ Memory) ⊎ IsBoundsFault nest status → Stopped files status
 bounds_stop files nest status loop cause = elim cause [ inl want ↦ inl want | inr fault ↦ inr (inr (loop_accepted files nest loop, inl (nest, loop, fault))) ]
 
-bounds_accepted : (files : Inputs) (nest : Nest) → IsAcceptedLoop files nest → Accepts OfBounds files
+pub bounds_accepted : (files : Inputs) (nest : Nest) → IsAcceptedLoop files nest → Accepts OfBounds files
 bounds_accepted files nest loop status (other, also, fault) =
     let P : Nest → Type 0 = λ n. IsBoundsFault n status in
     no_bounds_fault nest status loop.accepted (subst P (one_loop files.loop_file other nest also loop.is) fault)

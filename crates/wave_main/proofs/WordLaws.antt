@@ -73,6 +73,12 @@ long_check (a ∷ []) check = absurd (let e = second_true (fits slots.Check a) f
 long_check (a ∷ b ∷ []) check = absurd (let e = second_true (fits slots.Check a) false check in cc)
 long_check (a ∷ b ∷ c ∷ ws) check = omega arith
 
+two_explained : (ws : List (List ℕ)) → has_form ws forms.Explain ≡ true → length ws ≡ 2
+two_explained [] explain = absurd cc
+two_explained (a ∷ []) explain = absurd (let e = second_true (fits slots.Explain a) false explain in cc)
+two_explained (a ∷ b ∷ []) explain = refl
+two_explained (a ∷ b ∷ c ∷ ws) explain = absurd (let e = second_true (fits slots.Explain a) false explain in cc)
+
 two_shown : (ws : List (List ℕ)) → has_form ws forms.Show ≡ true → length ws ≡ 2
 two_shown [] show = absurd cc
 two_shown (a ∷ []) show = absurd (let e = second_true (fits slots.Show a) false show in cc)
@@ -84,6 +90,9 @@ run_length ws built = long_run ws (asked_has all_forms ws forms.Run built.asked)
 
 pub check_length : (ws : List (List ℕ)) → IsBuilt ws forms.Check → 3 ≤ length ws
 check_length ws built = long_check ws (asked_has all_forms ws forms.Check built.asked)
+
+pub explain_length : (ws : List (List ℕ)) → IsBuilt ws forms.Explain → length ws ≡ 2
+explain_length ws built = two_explained ws (asked_has all_forms ws forms.Explain built.asked)
 
 pub show_length : (ws : List (List ℕ)) → IsBuilt ws forms.Show → length ws ≡ 2
 show_length ws built = two_shown ws (asked_has all_forms ws forms.Show built.asked)

@@ -10,8 +10,8 @@ use Rattle.wave_main.specs.declared.status.Status.{Status}
 use Rattle.wave_main.specs.declared.status.Status.TheVariants.{Usage, NotBuilt}
 use Rattle.wave_main.specs.Files.{Inputs, word_of}
 use Rattle.wave_main.specs.Run.{RunPrints}
-use Rattle.wave_main.specs.Stages.{Stage, OfLoop, AcceptAll, IsRefusedBy, input_stages}
-use Rattle.wave_main.specs.Texts.{CheckPrints, ShowPrints}
+use Rattle.wave_main.specs.Stages.{Stage, OfLoop, OfBounds, AcceptAll, IsRefusedBy, input_stages}
+use Rattle.wave_main.specs.Texts.{CheckPrints, ExplainPrints, ShowPrints}
 
 abbrev pub all_forms : List Form
 all_forms = forms.Run ∷ forms.DemoGrid ∷ forms.DemoLower ∷ forms.Plan ∷ forms.Replay ∷ forms.Check ∷ forms.Explain ∷ forms.Show ∷ []
@@ -20,6 +20,7 @@ all_forms = forms.Run ∷ forms.DemoGrid ∷ forms.DemoLower ∷ forms.Plan ∷ 
 abbrev pub unbuilt_word : Form → List (List ℕ) → Option ℕ
 unbuilt_word forms.Run words = if bytes_eq (word_of words 3) (codes "1") then None else Some 3
 unbuilt_word forms.Check words = None
+unbuilt_word forms.Explain words = None
 unbuilt_word forms.Show words = None
 unbuilt_word _ words = Some 0
 
@@ -33,6 +34,7 @@ first_file _ = 2
 abbrev pub stages : Form → List Stage
 stages forms.Run = input_stages
 stages forms.Check = input_stages
+stages forms.Explain = OfLoop ∷ OfBounds ∷ []
 stages forms.Show = OfLoop ∷ []
 stages _ = []
 
@@ -40,6 +42,7 @@ stages _ = []
 abbrev pub IsText : Form → List (List ℕ) → Inputs → List ℕ → Type 0
 IsText forms.Run words files text = RunPrints words files text
 IsText forms.Check words files text = CheckPrints files text
+IsText forms.Explain words files text = ExplainPrints files text
 IsText forms.Show words files text = ShowPrints files text
 IsText _ words files text = ⊥
 
@@ -52,11 +55,13 @@ pub record IsBuilt (words : List (List ℕ)) (form : Form) : Type 0 where
 abbrev pub form_of : Command → Form
 form_of (commands.Run first) = forms.Run
 form_of (commands.Check first) = forms.Check
+form_of commands.Explain = forms.Explain
 form_of commands.Show = forms.Show
 
 abbrev pub HasPlaces : Command → Type 0
 HasPlaces (commands.Run first) = first ≡ first_file forms.Run
 HasPlaces (commands.Check first) = first ≡ first_file forms.Check
+HasPlaces commands.Explain = Unit {0}
 HasPlaces commands.Show = Unit {0}
 
 pub record IsCommand (words : List (List ℕ)) (command : Command) : Type 0 where

@@ -11,6 +11,7 @@ pub mod Stages
 pub mod Run
 pub mod Texts
 pub mod Commands
+pub mod Explaining
 pub mod Answers
 pub mod Making
 pub mod Calls

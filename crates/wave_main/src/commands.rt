@@ -7,6 +7,7 @@ ghost use Rattle.wave_main.specs.Files.{word_of};
 ghost use Rattle.wave_main.specs.Making.{IsMade, IsMissed};
 
 use crate::check::make_check;
+use crate::explain::make_explain;
 use crate::run::make_run;
 use crate::show::make_show;
 use crate::status::Status;
@@ -22,6 +23,7 @@ use wave_words::usage::usage;
 pub enum Command {
     Run { first: u32 },
     Check { first: u32 },
+    Explain,
     Show,
 }
 
@@ -48,8 +50,9 @@ fn built(form: Form, words: &[String]) -> Result<Command, u32>
     match form {
         Form::Run => run(words),
         Form::Check => Ok(Command::Check { first: 3 }),
+        Form::Explain => Ok(Command::Explain),
         Form::Show => Ok(Command::Show),
-        Form::DemoGrid | Form::DemoLower | Form::Plan | Form::Replay | Form::Explain => Err(0),
+        Form::DemoGrid | Form::DemoLower | Form::Plan | Form::Replay => Err(0),
     }
 }
 
@@ -102,6 +105,7 @@ pub fn make_text<L: Library>(
     match command {
         Command::Run { first } => make_run(alloc, lib, words, first),
         Command::Check { first } => make_check(alloc, lib, words, first),
+        Command::Explain => make_explain(alloc, lib, words),
         Command::Show => make_show(alloc, lib, words),
     }
 }
