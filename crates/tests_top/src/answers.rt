@@ -68,7 +68,7 @@ fn words_of_no_command_are_refused(rt: HostRuntime) -> Result<(), Fail> {
 fn commands_that_are_not_built_are_refused(rt: HostRuntime) -> Result<(), Fail> {
     let table: [(&[&str], &str); 4] = [
         (&["run", "L", "A", "2", "B"], "not built word 3\n"),
-        (&["explain", "L"], "not built word 0\n"),
+        (&["plan", "L", "A", "1", "B"], "not built word 0\n"),
         (&["demo", "lower", "0", "64"], "not built word 0\n"),
         (&["replay", "L", "A", "1", "O"], "not built word 0\n"),
     ];
@@ -195,7 +195,7 @@ fn the_quiet_call_leaves_runs_to_others(rt: HostRuntime) -> Result<(), Fail> {
     for (words, wanted) in [
         (["show", "L"], Status::Done),
         (["check", "L"], Status::Usage { word: 2 }),
-        (["explain", "L"], Status::NotBuilt { word: 0 }),
+        (["explain", "L"], Status::Done),
         (["run", "L"], Status::Usage { word: 0 }),
         (["demo", "grid"], Status::Usage { word: 0 }),
     ] {
