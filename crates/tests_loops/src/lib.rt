@@ -19,3 +19,5 @@ mod parts;
 mod runs;
 #[cfg(test)]
 mod touched;
+#[cfg(test)]
+mod weights;

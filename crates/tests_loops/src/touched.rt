@@ -22,7 +22,7 @@ fn push_decl(nest: &mut Nest, line: u16, kind: DeclKind) -> Result<(), Fail> {
 }
 
 // A matrix by columns, with arrays 0 to 3, and the vector x, array 4.
-fn by_columns(alloc: Global, parts: &[Part]) -> Result<Nest, Fail> {
+pub fn by_columns(alloc: Global, parts: &[Part]) -> Result<Nest, Fail> {
     let mut nest = nest_of(alloc, parts)?;
     push_decl(&mut nest, 1, DeclKind::Matrix(Form::Csc))?;
     push_decl(&mut nest, 2, DeclKind::Vector(Size::N, Source::File))?;
@@ -30,7 +30,7 @@ fn by_columns(alloc: Global, parts: &[Part]) -> Result<Nest, Fail> {
 }
 
 // Four columns: 1 on the diagonal, and the entries (3, 1) and (3, 2) below it.
-fn four_columns(alloc: Global) -> Result<Arrays, Fail> {
+pub fn four_columns(alloc: Global) -> Result<Arrays, Fail> {
     let mut lists = Vec::new(alloc);
     push_list(&mut lists, alloc, &[0, 1, 3, 5, 6])?;
     push_list(&mut lists, alloc, &[0, 1, 3, 2, 3, 3])?;
@@ -40,7 +40,7 @@ fn four_columns(alloc: Global) -> Result<Arrays, Fail> {
 
 // x[j] = x[j] / a.val[a.diag[j]], and then for each entry p of the column below its diagonal
 // x[a.row[p]] = x[a.row[p]] - a.val[p] * x[j].
-const FORWARD_BY_COLUMNS: [Part; 28] = [
+pub const FORWARD_BY_COLUMNS: [Part; 28] = [
     Var(1),
     Var(1),
     Read(4),
