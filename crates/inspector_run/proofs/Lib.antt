@@ -1,0 +1,12 @@
+pub mod Held
+pub mod Near
+pub mod Readied
+pub mod Spent
+pub mod Emitting
+pub mod Digits
+pub mod Sorting
+pub mod Counting
+pub mod Planned
+pub mod Ascend
+pub mod Along
+pub mod Arms
