@@ -1,21 +1,20 @@
 -- One operation of a run.
-use Rattle.std.proofs.Common.{◌≡◌, ℕ, ◌+◌, ◌*◌, ◌≤◌, ℤ, Bool, true, false, cond, List, [], ◌∷◌, ◌++◌, map, length, refl, sym, ap, ◌∙◌, subst, arith, append_assoc}
+use Rattle.std.proofs.Common.{◌≡◌, ℕ, ◌+◌, ◌*◌, ◌≤◌, ℤ, Bool, true, cond, List, [], ◌∷◌, ◌++◌, map, length, refl, sym, ap, ◌∙◌, subst, arith, append_assoc}
 use Rattle.std.specs.List.{All, flat_map}
 use Rattle.std.proofs.lemmas.List.Elements.{All-head, All-tail}
 use Rattle.wave_base.specs.declared.types.RowId.{RowId}
-use Rattle.wave_base.specs.declared.types.ArrayId.{ArrayId}
 use Rattle.loop_core.specs.declared.nest.VarId.{VarId}
 use Rattle.loop_core.specs.Lists.{Lists}
 use Rattle.loop_core.specs.Binding.{Binding, value_in}
 use Rattle.uf_constraints.specs.declared.system.Diff.{Diff}
 use Rattle.uf_constraints.specs.Truth.{diff_entries}
 use Rattle.inspector_run.specs.declared.plan.InspOp.{InspOp}
-use Rattle.inspector_run.specs.declared.plan.InspOp.TheVariants.{Loop, Let, Find, Locate, Test, Emit}
+use Rattle.inspector_run.specs.declared.plan.InspOp.TheVariants.{Test, Emit}
 use Rattle.inspector_run.specs.declared.inverse.Inverse.{Inverse}
 use Rattle.inspector_run.specs.Tries.{tried, is_true}
-use Rattle.inspector_run.specs.Pairs.{fixed, met, met_along, as_rows, IsEarlier, visits_after, visits_along}
+use Rattle.inspector_run.specs.Pairs.{met, met_along, as_rows, IsEarlier, visits_after, visits_along}
 use Rattle.inspector_run.specs.Ticks.{entries_in, search_in, found_in, brackets, searches, each_visit}
-use Rattle.inspector_run.specs.Ready.{AreHeld, AreNear, fixes, IsNear, SearchesAscending, IsReady, AreReady}
+use Rattle.inspector_run.specs.Ready.{AreNear, fixes, IsNear, SearchesAscending, IsReady, AreReady}
 use Rattle.inspector_run.specs.Inverses.{Serve}
 use Rattle.inspector_run.proofs.Readied.{ready_along, ready_after}
 use Rattle.inspector_run.proofs.Spent.{spent_along, spent_after}

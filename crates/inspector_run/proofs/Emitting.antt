@@ -1,14 +1,13 @@
 -- A plan emits earlier rows with later ones.
-use Rattle.std.proofs.Common.{rules, ◌≡◌, ℕ, zero, suc, ◌<◌, ◌≤◌, ◌+◌, ℤ, pos, ◌-ℤ◌, ◌≤ℤ◌, ◌<ℤ◌, Bool, true, false, cond, not, ◌&&◌, ◌||◌, ◌⊎◌, inl, inr, List, [], ◌∷◌, ◌++◌, length, refl, sym, ap, ◌∙◌, subst, arith, int_le, IsTrue}
+use Rattle.std.proofs.Common.{rules, ◌≡◌, ℕ, zero, suc, ◌<◌, ℤ, pos, ◌-ℤ◌, ◌≤ℤ◌, ◌<ℤ◌, Bool, true, false, cond, not, ◌⊎◌, inl, inr, List, [], ◌∷◌, ◌++◌, refl, sym, ap, ◌∙◌, subst, arith, int_le}
 use Rattle.std.specs.Prelude.{◌==◌, slice_index_or}
-use Rattle.std.specs.List.{All, Contains, flat_map, list_all, list_any}
+use Rattle.std.specs.List.{All, Contains, flat_map, list_all}
 use Rattle.std.proofs.lemmas.Int.{ints}
 use Rattle.std.proofs.lemmas.Bool.{both_ways, and_parts, and_from, or_right, not-true, eqb-true, false≢true}
 use Rattle.std.proofs.lemmas.List.Elements.{All-nil, All-cons, All-append, Contains-append_cases}
 use Rattle.loop_core.specs.declared.nest.VarId.{VarId}
 use Rattle.loop_core.specs.declared.nest.Side.{Side}
 use Rattle.loop_core.specs.declared.nest.Side.TheVariants.{Own, First, Second}
-use Rattle.loop_core.specs.declared.nest.Atom.{Atom}
 use Rattle.loop_core.specs.declared.nest.Atom.TheVariants.{Zero, N, Var}
 use Rattle.loop_core.specs.declared.nest.Atom.TheFolds.{the_lemmas as of_atom}
 use Rattle.loop_core.specs.Lists.{Lists}
@@ -19,7 +18,7 @@ use Rattle.inspector_run.specs.declared.plan.InspOp.{InspOp}
 use Rattle.inspector_run.specs.declared.plan.InspOp.TheVariants.{Loop, Let, Find, Locate, Test, Emit}
 use Rattle.inspector_run.specs.Tries.{tried, is_true}
 use Rattle.inspector_run.specs.Pairs.{fixed, met, IsEarlier}
-use Rattle.inspector_run.specs.IsPlan.{atom_vars, uses, is_among, AreFixedInOrder, tests, emits, from_zero, one_below, below_rows, EndsWith, IsPlan}
+use Rattle.inspector_run.specs.IsPlan.{uses, is_among, AreFixedInOrder, tests, emits, from_zero, one_below, below_rows, IsPlan}
 
 -- Variables.
 

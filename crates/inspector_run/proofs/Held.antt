@@ -1,10 +1,10 @@
 -- Bounds on the values of variables.
-use Rattle.std.proofs.Common.{ℕ, ◌≤◌, List, [], ◌∷◌, true, false, cond, arith, length, unsigned_abs}
+use Rattle.std.proofs.Common.{ℕ, ◌≤◌, List, [], ◌∷◌, true, false, cond, arith, unsigned_abs}
 use Rattle.std.specs.List.{All}
 use Rattle.std.proofs.lemmas.List.Elements.{All-head, All-tail}
 use Rattle.loop_core.specs.declared.nest.VarId.{VarId}
 use Rattle.loop_core.specs.Binding.{Binding, value_in, same_variable}
-use Rattle.inspector_run.specs.Ready.{AreHeld, reach}
+use Rattle.inspector_run.specs.Ready.{reach}
 
 -- the value of a variable is one of those in the list, or 0
 pub value_in_within : (k : ℕ) (env : List Binding) (var : VarId) → All (λ b. unsigned_abs b.value ≤ reach k) env → unsigned_abs (value_in env var) ≤ reach k

@@ -1,5 +1,5 @@
 -- What a run asks for, one operation or one value further.
-use Rattle.std.proofs.Common.{◌≡◌, ℕ, suc, ℤ, ◌+◌, ◌≤◌, List, [], ◌∷◌, ◌++◌, refl, ap, sym, ◌∙◌, subst, arith, length, unsigned_abs}
+use Rattle.std.proofs.Common.{◌≡◌, suc, ℤ, ◌+◌, ◌≤◌, List, [], ◌∷◌, ◌++◌, subst, arith, length, unsigned_abs}
 use Rattle.std.specs.List.{All, flat_map}
 use Rattle.std.proofs.lemmas.List.Elements.{All-nil, All-cons, All-head, All-tail, All-weaker}
 use Rattle.loop_core.specs.declared.nest.VarId.{VarId}

@@ -1,5 +1,5 @@
 -- Ticks added up.
-use Rattle.std.proofs.Common.{◌≡◌, ℕ, ◌+◌, ◌*◌, ◌≤◌, arith}
+use Rattle.std.proofs.Common.{ℕ, ◌+◌, ◌*◌, ◌≤◌, arith}
 
 -- an operation that takes e + f ticks, and then w at each of so many visits
 pub spent_along : (s t u e f b d visits : ℕ) → t ≤ s + (e + f) → u ≤ t + visits * (b + d) → u ≤ s + (1 + visits) * ((e + b) + (f + d))

@@ -4,7 +4,6 @@ use Rattle.std.specs.List.{All, Contains, flat_map, list_all, list_any}
 use Rattle.loop_core.specs.declared.nest.VarId.{VarId}
 use Rattle.loop_core.specs.declared.nest.Atom.{Atom}
 use Rattle.loop_core.specs.declared.nest.Atom.TheVariants.{Zero, N, Var}
-use Rattle.loop_core.specs.declared.nest.Term.{Term}
 use Rattle.loop_core.specs.Binding.{same_variable}
 use Rattle.loop_core.specs.Shape.{term_vars}
 use Rattle.uf_constraints.specs.declared.system.Diff.{Diff}

@@ -1,5 +1,5 @@
 -- What the run of operations from some values of the variables asks for.
-use Rattle.std.specs.Prelude.{◌≡◌, ℕ, ◌+◌, ◌*◌, ◌^◌, ◌<◌, ◌≤◌, ℤ, pos, ◌≤ℤ◌, List, [], ◌∷◌, length, unsigned_abs}
+use Rattle.std.specs.Prelude.{ℕ, ◌+◌, ◌*◌, ◌^◌, ◌<◌, ◌≤◌, ℤ, ◌≤ℤ◌, List, [], ◌∷◌, length, unsigned_abs}
 use Rattle.std.specs.List.{All, flat_map}
 use Rattle.loop_core.specs.declared.nest.VarId.{VarId}
 use Rattle.loop_core.specs.Lists.{Lists, list_of}

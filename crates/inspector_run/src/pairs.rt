@@ -1,5 +1,5 @@
 // The pairs of a plan.
-ghost use Rattle.std.specs.Prelude.{◌≡◌, ◌+◌, ◌<◌, ◌≤◌, [], IfOk};
+ghost use Rattle.std.specs.Prelude.{◌≡◌, ◌+◌, ◌<◌, ◌≤◌, IfOk};
 ghost use Rattle.std.specs.List.{All};
 ghost use Rattle.wave_base.specs.declared.types.RowId.{RowId};
 ghost use Rattle.inspector_run.specs.Pairs.{emitted as of_plan};

@@ -1,6 +1,6 @@
 // The run of operations.
-ghost use Rattle.std.specs.Prelude.{◌≡◌, ◌+◌, ◌*◌, ◌≤◌, ◌∷◌, ◌++◌, [], map, length, OnOk, MatchOption, true, if◌then◌else◌, pos, ◌≤ℤ◌, ◌<ℤ◌};
-ghost use Rattle.std.specs.List.{All, flat_map};
+ghost use Rattle.std.specs.Prelude.{◌≡◌, ◌+◌, ◌*◌, ◌≤◌, ◌∷◌, ◌++◌, [], map, OnOk, MatchOption, true, if◌then◌else◌, pos, ◌≤ℤ◌, ◌<ℤ◌};
+ghost use Rattle.std.specs.List.{flat_map};
 ghost use Rattle.loop_core.specs.Variables.{bindings};
 ghost use Rattle.loop_core.specs.Binding.{value_in};
 ghost use Rattle.loop_core.specs.Instances.{natural};

@@ -6,7 +6,7 @@ ghost use Rattle.loop_core.specs.Variables.{bindings};
 ghost use Rattle.inspector_run.specs.Left.{left};
 ghost use Rattle.inspector_run.specs.Tries.{numbers_between, places_of, place_up_to, last_place, moved};
 ghost use Rattle.inspector_run.specs.Ticks.{digits};
-ghost use Rattle.inspector_run.specs.Ready.{AreHeld, AreNear, IsAscending, reach};
+ghost use Rattle.inspector_run.specs.Ready.{AreHeld, AreNear, IsAscending};
 ghost use Rattle.inspector_run.specs.Inverses.{Serve};
 
 use crate::inverse::{Inverse, equal_in};

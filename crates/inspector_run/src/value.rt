@@ -1,5 +1,5 @@
 // The values of terms and the truth of constraints, where at most 12 variables are fixed.
-ghost use Rattle.std.specs.Prelude.{◌≡◌, ◌+◌, ◌*◌, ◌^◌, ◌≤◌, ◌-ℤ◌, int_le, length, unsigned_abs};
+ghost use Rattle.std.specs.Prelude.{◌≡◌, ◌+◌, ◌^◌, ◌≤◌, ◌-ℤ◌, int_le, length, unsigned_abs};
 ghost use Rattle.loop_core.specs.Terms.{atom_value, term_value, term_entries, atom_entries};
 ghost use Rattle.loop_core.specs.Variables.{bindings};
 ghost use Rattle.uf_constraints.specs.Truth.{diff_entries};

@@ -1,4 +1,4 @@
-use Rattle.std.proofs.Common.{rules, arith, ◌≡◌, sym, subst, true, false, length, []}
+use Rattle.std.proofs.Common.{rules, arith, ◌≡◌, sym, subst, true, false, []}
 use mir.Syntax.{w128}
 use Rattle.std.specs.List.{list_any}
 use Rattle.std.proofs.lemmas.Int.{to_z-of_z}

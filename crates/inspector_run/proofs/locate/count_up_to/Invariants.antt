@@ -1,4 +1,4 @@
-use Rattle.std.proofs.Common.{◌-◌, ◌+◌, ◌≤◌, ◌<◌, ℕ, length, ◌≤ℤ◌, ◌<ℤ◌}
+use Rattle.std.proofs.Common.{◌-◌, ◌+◌, ◌≤◌, ◌<◌, ℕ, ◌≤ℤ◌, ◌<ℤ◌}
 use Rattle.loop_core.specs.Lists.{list_of}
 use Rattle.inspector_run.specs.Tries.{word}
 use Rattle.inspector_run.specs.Ticks.{digits}

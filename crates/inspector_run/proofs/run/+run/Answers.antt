@@ -1,16 +1,15 @@
-use Rattle.std.proofs.Common.{rules, arith, ◌≡◌, ◌+◌, ◌*◌, ◌<◌, ◌≤◌, ◌∷◌, ◌++◌, [], map, length, refl, ap, ◌∙◌, sym, subst, true, false, ℤ, FitsSigned, to_z, of_z}
+use Rattle.std.proofs.Common.{rules, arith, ◌≡◌, ◌+◌, ◌*◌, ◌<◌, ◌≤◌, ◌∷◌, ◌++◌, [], map, length, refl, ap, ◌∙◌, sym, subst, true, false, ℤ, FitsSigned}
 use mir.Syntax.{w64, w128}
 use Rattle.std.specs.List.{flat_map}
-use Rattle.std.proofs.lemmas.Int.{ints, to_z-of_z}
+use Rattle.std.proofs.lemmas.Int.{to_z-of_z}
 use Rattle.std.proofs.lemmas.List.{append-nil}
 use Rattle.std.proofs.lemmas.List.Elements.{All-head, All-tail}
 use Rattle.std.proofs.lemmas.Result.{on_ok_weaker}
 use Rattle.loop_core.specs.Variables.{bindings}
-use Rattle.loop_core.specs.Binding.{value_in}
 use Rattle.inspector_run.specs.declared.plan.InspOp.TheVariants.{Loop, Let, Find, Locate, Test, Emit}
 use Rattle.inspector_run.specs.Left.{left}
 use Rattle.inspector_run.specs.Pairs.{fixed as and_fixed}
-use Rattle.inspector_run.specs.Pairs.{met, met_along, as_rows, visits_after, visits_along}
+use Rattle.inspector_run.specs.Pairs.{met, as_rows, visits_after, visits_along}
 use Rattle.inspector_run.specs.Ticks.{each_visit, found_in}
 use Rattle.inspector_run.specs.Ready.{IsNear, IsReady, AreReady}
 use Rattle.inspector_run.specs.Inverses.{Serve}

@@ -1,5 +1,4 @@
-use Rattle.std.proofs.Common.{rules, ◌≡◌, ◌≤◌, ap, ◌∙◌, sym, map, int_lt, int_le}
-use Rattle.std.specs.List.Sorted.{IsPartitionPoint}
+use Rattle.std.proofs.Common.{rules, ◌≤◌, ap, ◌∙◌, sym, map, int_lt, int_le}
 use Rattle.std.proofs.lemmas.List.Sorted.{IsPartitionPoint-from_clause}
 use Rattle.inspector_run.specs.declared.sorted.Held.{Held}
 use Rattle.inspector_run.specs.Inverses.{place_of}
