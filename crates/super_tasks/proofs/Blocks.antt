@@ -12,7 +12,7 @@ kept-step : {X : Type 0} (b : Bool) (e : ℕ × X) (es : List (ℕ × X)) → ma
 kept-step true e es = refl
 kept-step false e es = refl
 
-kept-cons : {X : Type 0} (p : ℕ → Bool) (n : ℕ) (x : X) (xs : List X) → kept p n (x ∷ xs) ≡ cond (p n) (x ∷ kept p (n + 1) xs) (kept p (n + 1) xs)
+pub kept-cons : {X : Type 0} (p : ℕ → Bool) (n : ℕ) (x : X) (xs : List X) → kept p n (x ∷ xs) ≡ cond (p n) (x ∷ kept p (n + 1) xs) (kept p (n + 1) xs)
 kept-cons p n x xs = kept-step (p n) (n, x) (filter (λ e. p e.0) (enumerate_from (n + 1) xs))
 
 pub kept-none : {X : Type 0} (p : ℕ → Bool) (n : ℕ) (xs : List X) → ((s : ℕ) → n ≤ s → s < n + length xs → p s ≡ false) → kept p n xs ≡ []

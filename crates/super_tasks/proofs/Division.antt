@@ -1,44 +1,47 @@
--- Where the places of one worker end.
+-- Where the weights before the rows of one worker end.
 use Rattle.std.proofs.Common.{◌≡◌, ℕ, ◌+◌, ◌-◌, ◌*◌, ◌/◌, ◌<◌, ◌≤◌, ◌∙◌, arith, ap}
 use Rattle.std.proofs.Math.Nat.{div-lt_iff_lt-mul, le-div_iff_mul-le, div-mul-le_self, mul-le-mul_right, mul_comm, mul-div_left, zero-div, zero-mul}
-use Rattle.super_tasks.specs.Shares.{worker_at}
 
-pub worker_at-rises : (workers rows s t : ℕ) → 0 < rows → s ≤ t → worker_at workers rows s ≤ worker_at workers rows t
-worker_at-rises workers rows s t p h =
-    let a = div-mul-le_self (s * workers) rows in
+-- the worker of a row before which stand rows of some weight
+abbrev pub worker_by : ℕ → ℕ → ℕ → ℕ
+worker_by workers total before = before * workers / total
+
+pub worker_by-rises : (workers total s t : ℕ) → 0 < total → s ≤ t → worker_by workers total s ≤ worker_by workers total t
+worker_by-rises workers total s t p h =
+    let a = div-mul-le_self (s * workers) total in
     let b : s * workers ≤ t * workers = mul-le-mul_right workers h in
     (le-div_iff_mul-le p).1 (omega (arith, a, b))
 
-pub worker_at-zero : (workers rows : ℕ) → worker_at workers rows 0 ≡ 0
-worker_at-zero workers rows = ap (λ n. n / rows) (zero-mul workers) ∙ zero-div rows
+pub worker_by-zero : (workers total : ℕ) → worker_by workers total 0 ≡ 0
+worker_by-zero workers total = ap (λ n. n / total) (zero-mul workers) ∙ zero-div total
 
-pub worker_at-all : (workers rows : ℕ) → 0 < rows → worker_at workers rows rows ≡ workers
-worker_at-all workers rows p = ap (λ n. n / rows) (mul_comm rows workers) ∙ mul-div_left workers p
+pub worker_by-all : (workers total : ℕ) → 0 < total → worker_by workers total total ≡ workers
+worker_by-all workers total p = ap (λ n. n / total) (mul_comm total workers) ∙ mul-div_left workers p
 
-pub worker_at-below : (workers rows s : ℕ) → s < rows → 0 < workers → worker_at workers rows s < workers
-worker_at-below workers rows s h p = (div-lt_iff_lt-mul (omega arith)).1 (grind (arith, mul_comm))
+pub worker_by-below : (workers total s : ℕ) → s < total → 0 < workers → worker_by workers total s < workers
+worker_by-below workers total s h p = (div-lt_iff_lt-mul (omega arith)).1 (grind (arith, mul_comm))
 
-module _ (worker workers rows : ℕ) (some : 0 < rows) (below : worker < workers) where
-  pub end_before : (s : ℕ) → s < ((worker + 1) * rows + workers - 1) / workers → worker_at workers rows s ≤ worker
-  end_before s h =
+module _ (worker workers total : ℕ) (some : 0 < total) (below : worker < workers) where
+  pub limit_before : (s : ℕ) → s < ((worker + 1) * total + workers - 1) / workers → worker_by workers total s ≤ worker
+  limit_before s h =
       let many : 0 < workers = omega arith in
-      let a : (s + 1) * workers ≤ (worker + 1) * rows + workers - 1 = (le-div_iff_mul-le many).0 (omega arith) in
-      let b : s * workers < (worker + 1) * rows = omega arith in
-      let c : s * workers / rows < worker + 1 = (div-lt_iff_lt-mul some).1 b in
+      let a : (s + 1) * workers ≤ (worker + 1) * total + workers - 1 = (le-div_iff_mul-le many).0 (omega arith) in
+      let b : s * workers < (worker + 1) * total = omega arith in
+      let c : s * workers / total < worker + 1 = (div-lt_iff_lt-mul some).1 b in
       omega (arith, c)
 
-  pub end_from : (s : ℕ) → ((worker + 1) * rows + workers - 1) / workers ≤ s → worker < worker_at workers rows s
-  end_from s h =
+  pub limit_from : (s : ℕ) → ((worker + 1) * total + workers - 1) / workers ≤ s → worker < worker_by workers total s
+  limit_from s h =
       let many : 0 < workers = omega arith in
-      let a : (worker + 1) * rows + workers - 1 < (s + 1) * workers = (div-lt_iff_lt-mul many).0 (omega arith) in
-      let b : (worker + 1) * rows ≤ s * workers = omega arith in
-      let c : worker + 1 ≤ s * workers / rows = (le-div_iff_mul-le some).1 b in
+      let a : (worker + 1) * total + workers - 1 < (s + 1) * workers = (div-lt_iff_lt-mul many).0 (omega arith) in
+      let b : (worker + 1) * total ≤ s * workers = omega arith in
+      let c : worker + 1 ≤ s * workers / total = (le-div_iff_mul-le some).1 b in
       omega (arith, c)
 
-  pub end_within : ((worker + 1) * rows + workers - 1) / workers ≤ rows
-  end_within =
+  pub limit_within : ((worker + 1) * total + workers - 1) / workers ≤ total
+  limit_within =
       let many : 0 < workers = omega arith in
-      let a : (worker + 1) * rows ≤ workers * rows = mul-le-mul_right rows (omega arith) in
-      let b : (worker + 1) * rows + workers - 1 < (rows + 1) * workers = omega (arith, a, mul_comm workers rows) in
-      let c : ((worker + 1) * rows + workers - 1) / workers < rows + 1 = (div-lt_iff_lt-mul many).1 b in
+      let a : (worker + 1) * total ≤ workers * total = mul-le-mul_right total (omega arith) in
+      let b : (worker + 1) * total + workers - 1 < (total + 1) * workers = omega (arith, a, mul_comm workers total) in
+      let c : ((worker + 1) * total + workers - 1) / workers < total + 1 = (div-lt_iff_lt-mul many).1 b in
       omega (arith, c)

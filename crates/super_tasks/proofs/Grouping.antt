@@ -15,20 +15,20 @@ flat_map-range_more f a (suc n) =
     ap (λ xs. f a ++ xs) r ∙ sym (append_assoc (f a) (flat_map f (range_with_len (a + 1) n)) (f (a + 1 + n))) ∙ ap (λ k. (f a ++ flat_map f (range_with_len (a + 1) n)) ++ f k) e
 
 -- each list has the tasks of the first levels
-pub record Grouping (levels : List ℕ) (workers : ℕ) (level : ℕ) (lists : List (List RowTask)) : Type 0 where
+pub record Grouping (levels weights : List ℕ) (workers : ℕ) (level : ℕ) (lists : List (List RowTask)) : Type 0 where
   pub many : length lists ≡ workers
-  pub tasks : (w : ℕ) → w < workers → get_or lists w [] ≡ flat_map (task_at levels workers w) (range_with_len 0 level)
+  pub tasks : (w : ℕ) → w < workers → get_or lists w [] ≡ flat_map (task_at levels weights workers w) (range_with_len 0 level)
 
-pub grouping_more : (levels : List ℕ) (workers level : ℕ) (lists more : List (List RowTask)) → Grouping levels workers level lists → length more ≡ length lists → ((w : ℕ) → w < workers → get_or more w [] ≡ get_or lists w [] ++ task_at levels workers w level) → Grouping levels workers (level + 1) more
-grouping_more levels workers level lists more g len h = record {
+pub grouping_more : (levels weights : List ℕ) (workers level : ℕ) (lists more : List (List RowTask)) → Grouping levels weights workers level lists → length more ≡ length lists → ((w : ℕ) → w < workers → get_or more w [] ≡ get_or lists w [] ++ task_at levels weights workers w level) → Grouping levels weights workers (level + 1) more
+grouping_more levels weights workers level lists more g len h = record {
   many = len ∙ g.many;
   tasks = λ w l.
-      let m = flat_map-range_more (task_at levels workers w) 0 level in
+      let m = flat_map-range_more (task_at levels weights workers w) 0 level in
       let e : 0 + level ≡ level = omega arith in
-      let s : flat_map (task_at levels workers w) (range_with_len 0 (level + 1)) ≡ flat_map (task_at levels workers w) (range_with_len 0 level) ++ task_at levels workers w level = rw add-one (m ∙ ap (λ k. flat_map (task_at levels workers w) (range_with_len 0 level) ++ task_at levels workers w k) e) in
-      h w l ∙ ap (λ ts. ts ++ task_at levels workers w level) (g.tasks w l) ∙ sym s;
+      let s : flat_map (task_at levels weights workers w) (range_with_len 0 (level + 1)) ≡ flat_map (task_at levels weights workers w) (range_with_len 0 level) ++ task_at levels weights workers w level = rw add-one (m ∙ ap (λ k. flat_map (task_at levels weights workers w) (range_with_len 0 level) ++ task_at levels weights workers w k) e) in
+      h w l ∙ ap (λ ts. ts ++ task_at levels weights workers w level) (g.tasks w l) ∙ sym s;
 }
 
-pub grouping_end : (levels : List ℕ) (workers level : ℕ) (lists : List (List RowTask)) → Grouping levels workers level lists → level ≡ above levels → lists ≡ groups levels workers
-grouping_end levels workers level lists g e =
-    fill_by_all (worker_tasks levels workers) lists workers [] g.many (λ w l. g.tasks w l ∙ ap (λ n. flat_map (task_at levels workers w) (range_with_len 0 n)) e)
+pub grouping_end : (levels weights : List ℕ) (workers level : ℕ) (lists : List (List RowTask)) → Grouping levels weights workers level lists → level ≡ above levels → lists ≡ groups levels weights workers
+grouping_end levels weights workers level lists g e =
+    fill_by_all (worker_tasks levels weights workers) lists workers [] g.many (λ w l. g.tasks w l ∙ ap (λ n. flat_map (task_at levels weights workers w) (range_with_len 0 n)) e)

@@ -2,5 +2,6 @@
 #![tactic(auto)]
 
 pub mod group;
+pub mod laws;
 pub mod plain;
 mod share;
