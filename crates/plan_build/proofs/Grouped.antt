@@ -14,8 +14,8 @@ use Rattle.wave_levels.proofs.Above.{above-at}
 use Rattle.wave_levels.proofs.RowsAt.{rows_at-members, rows_at-ascending}
 use Rattle.sched_types.specs.declared.sched.RowTask.{RowTask}
 use Rattle.sched_types.specs.Order.{Spot, IsAt}
-use Rattle.super_tasks.specs.Shares.{worker_at, share, task_of, worker_tasks, groups}
-use Rattle.super_tasks.proofs.Division.{worker_at-below}
+use Rattle.super_tasks.specs.Shares.{AreWeights, worker_at, share, task_of, worker_tasks, groups}
+use Rattle.super_tasks.proofs.Weighing.{rows_at-weighed, worker_at-below}
 use Rattle.wait_sparsify.specs.Depends.{Depends, StandsIn, ArePlaced, AreLevelled}
 use Rattle.wait_sparsify.proofs.Surviving.{climbing_from}
 use Rattle.wait_sparsify.proofs.Deciding.{same_task}
@@ -92,29 +92,29 @@ one_place rows asc s k r l m e f =
       | inr (inr gt) ↦ absurd (omega (arith, asc k s r gt l, a, b))
     ]
 
-module _ (graph : List (List RowId)) (levels : List ℕ) (workers : ℕ) (are : AreLevels graph levels) (some : 0 < workers) where
+module _ (graph : List (List RowId)) (levels weights : List ℕ) (workers : ℕ) (are : AreLevels graph levels) (weigh : AreWeights (length levels) weights) (some : 0 < workers) where
   abbrev rows_for : ℕ → ℕ → List RowId
-  rows_for w l = share workers (rows_at levels l) w
+  rows_for w l = share weights workers (rows_at levels l) w
 
   abbrev passes : ℕ → ℕ → ℕ → Bool
-  passes w l s = eqb (worker_at workers (length (rows_at levels l)) s) w
+  passes w l s = eqb (worker_at weights workers (rows_at levels l) s) w
 
   -- the task of a place is one of its worker's
-  at_worker : (p : Spot) (t : RowTask) → IsAt (groups levels workers) p t → (p.worker < workers) × (slice_get (from (rows_for p.worker) 0 (above levels)) p.at ≡ Some t)
+  at_worker : (p : Spot) (t : RowTask) → IsAt (groups levels weights workers) p t → (p.worker < workers) × (slice_get (from (rows_for p.worker) 0 (above levels)) p.at ≡ Some t)
   at_worker p t h =
       elim (cases_lt p.worker workers) as (λ _. (p.worker < workers) × (slice_get (from (rows_for p.worker) 0 (above levels)) p.at ≡ Some t)) [
         | inl l ↦
-            let e = get_or-map-range_with_len (worker_tasks levels workers) 0 workers p.worker p.worker [] l (omega arith) in
+            let e = get_or-map-range_with_len (worker_tasks levels weights workers) 0 workers p.worker p.worker [] l (omega arith) in
             (l, ap (λ (ts : List RowTask). slice_get ts p.at) (sym e) ∙ h)
         | inr g ↦
-            let e = get_or_past (groups levels workers) p.worker [] (omega (arith, g, length-map-range_with_len (worker_tasks levels workers) 0 workers)) in
+            let e = get_or_past (groups levels weights workers) p.worker [] (omega (arith, g, length-map-range_with_len (worker_tasks levels weights workers) 0 workers)) in
             let bad : None ≡ Some t = ap (λ (ts : List RowTask). slice_get ts p.at) (sym e) ∙ h in
             absurd (cc)
       ]
 
-  worker_at-place : (w at : ℕ) (t : RowTask) → w < workers → slice_get (from (rows_for w) 0 (above levels)) at ≡ Some t → IsAt (groups levels workers) (record { worker = w; at = at }) t
+  worker_at-place : (w at : ℕ) (t : RowTask) → w < workers → slice_get (from (rows_for w) 0 (above levels)) at ≡ Some t → IsAt (groups levels weights workers) (record { worker = w; at = at }) t
   worker_at-place w at t l h =
-      let e = get_or-map-range_with_len (worker_tasks levels workers) 0 workers w w [] l (omega arith) in
+      let e = get_or-map-range_with_len (worker_tasks levels weights workers) 0 workers w w [] l (omega arith) in
       ap (λ (ts : List RowTask). slice_get ts at) e ∙ h
 
   -- what is known of a row of a task
@@ -124,9 +124,9 @@ module _ (graph : List (List RowId)) (levels : List ℕ) (workers : ℕ) (are : 
     place : ℕ
     place_in : place < length (rows_at levels t.level)
     place_is : get_or (rows_at levels t.level) place r ≡ r
-    worker : worker_at workers (length (rows_at levels t.level)) place ≡ p.worker
+    worker : worker_at weights workers (rows_at levels t.level) place ≡ p.worker
 
-  known : (p : Spot) (t : RowTask) (r : RowId) → IsAt (groups levels workers) p t → In r t.rows → Known p t r
+  known : (p : Spot) (t : RowTask) (r : RowId) → IsAt (groups levels weights workers) p t → In r t.rows → Known p t r
   known p t r h i =
       let a = at_worker p t h in
       let l = level_of (rows_for p.worker) 0 (above levels) p.at t a.1 in
@@ -139,32 +139,32 @@ module _ (graph : List (List RowId)) (levels : List ℕ) (workers : ℕ) (are : 
         place = k.0;
         place_in = k.1;
         place_is = k.2;
-        worker = ap (worker_at workers (length (rows_at levels t.level))) z ∙ eqb-true (worker_at workers (length (rows_at levels t.level)) (0 + k.0)) p.worker k.3;
+        worker = ap (worker_at weights workers (rows_at levels t.level)) z ∙ eqb-true (worker_at weights workers (rows_at levels t.level) (0 + k.0)) p.worker k.3;
       }
 
   in_rows : (rows : List RowId) (at : ℕ) (r : RowId) → slice_get rows at ≡ Some r → In r rows
   in_rows rows at r h = In-from rows r (at, slice_get_within rows at r h, get_or_from_slice_get rows at r r h)
 
-  rows_alone : (r : RowId) (p : Spot) (at : ℕ) → StandsIn (groups levels workers) r p at → r.0 < length graph
+  rows_alone : (r : RowId) (p : Spot) (at : ℕ) → StandsIn (groups levels weights workers) r p at → r.0 < length graph
   rows_alone r p at s = let k = known p s.0 r s.1 (in_rows s.0.rows at r s.2) in omega (arith, k.within, are.0)
 
-  stands : (r : RowId) → r.0 < length graph → (p : Spot) × (at : ℕ) × StandsIn (groups levels workers) r p at
+  stands : (r : RowId) → r.0 < length graph → (p : Spot) × (at : ℕ) × StandsIn (groups levels weights workers) r p at
   stands r h =
       let n : r.0 < length levels = omega (arith, h, are.0) in
       let l = level_at levels r in
       let rows = rows_at levels l in
       let c = (rows_at-members levels l r).1 (n, refl) in
-      let w = worker_at workers (length rows) c.0 in
-      let wl = worker_at-below workers (length rows) c.0 c.1 some in
+      let w = worker_at weights workers rows c.0 in
+      let wl = worker_at-below weights rows workers c.0 (rows_at-weighed levels weights l weigh) c.1 some in
       let z : 0 + c.0 ≡ c.0 = omega arith in
-      let i : In r (rows_for w l) = In-kept_to (passes w l) 0 rows c.0 r c.1 c.2 (eq-eqb (worker_at workers (length rows) (0 + c.0)) w (ap (worker_at workers (length rows)) z)) in
+      let i : In r (rows_for w l) = In-kept_to (passes w l) 0 rows c.0 r c.1 c.2 (eq-eqb (worker_at weights workers rows (0 + c.0)) w (ap (worker_at weights workers rows) z)) in
       let d = In-to (rows_for w l) r i in
       let up : l < 0 + above levels = omega (arith, above-at levels r.0 0 n) in
       let t = has_level (rows_for w) 0 (above levels) l (omega arith) up (omega (arith, d.1)) in
       let e : slice_get (rows_for w l) d.0 ≡ Some r = slice_get_read (rows_for w l) (length (rows_for w l)) d.0 r refl d.1 (sym d.2) in
       (record { worker = w; at = t.0 }, d.0, (task l (rows_for w l), worker_at-place w t.0 (task l (rows_for w l)) wl t.1, e))
 
-  same_level : (p q : Spot) (t u : RowTask) → IsAt (groups levels workers) p t → IsAt (groups levels workers) q u → p.worker ≡ q.worker → t.level ≡ u.level → p.at ≡ q.at
+  same_level : (p q : Spot) (t u : RowTask) → IsAt (groups levels weights workers) p t → IsAt (groups levels weights workers) q u → p.worker ≡ q.worker → t.level ≡ u.level → p.at ≡ q.at
   same_level p q t u h k e l =
       let a = (at_worker p t h).1 in
       let b = (at_worker q u k).1 in
@@ -175,14 +175,14 @@ module _ (graph : List (List RowId)) (levels : List ℕ) (workers : ℕ) (are : 
         | inr (inr gt) ↦ absurd (omega (arith, l, rises (rows_for q.worker) 0 (above levels) q.at p.at u t gt b a'))
       ]
 
-  task_ascends : (p : Spot) (t : RowTask) → IsAt (groups levels workers) p t → AreAscending t.rows
+  task_ascends : (p : Spot) (t : RowTask) → IsAt (groups levels weights workers) p t → AreAscending t.rows
   task_ascends p t h =
       let l = level_of (rows_for p.worker) 0 (above levels) p.at t (at_worker p t h).1 in
       let rows = rows_at levels t.level in
       let c = climbing-kept (passes p.worker t.level) 0 0 rows (climbing_from 0 rows (λ d h. omega arith) (rows_at-ascending levels t.level)) in
       ascending_from 0 t.rows (subst (Climbing 0) (sym l.2) c)
 
-  once : (r : RowId) (p q : Spot) (at other_at : ℕ) → StandsIn (groups levels workers) r p at → StandsIn (groups levels workers) r q other_at → (p ≡ q) × (at ≡ other_at)
+  once : (r : RowId) (p q : Spot) (at other_at : ℕ) → StandsIn (groups levels weights workers) r p at → StandsIn (groups levels weights workers) r q other_at → (p ≡ q) × (at ≡ other_at)
   once r p q at other_at x y =
       let t = x.0 in
       let u = y.0 in
@@ -192,19 +192,19 @@ module _ (graph : List (List RowId)) (levels : List ℕ) (workers : ℕ) (are : 
       let rows = rows_at levels u.level in
       let a_in = subst (λ (n : ℕ). a.place < length (rows_at levels n)) l a.place_in in
       let a_is = subst (λ (n : ℕ). get_or (rows_at levels n) a.place r ≡ r) l a.place_is in
-      let a_worker = subst (λ (n : ℕ). worker_at workers (length (rows_at levels n)) a.place ≡ p.worker) l a.worker in
+      let a_worker = subst (λ (n : ℕ). worker_at weights workers (rows_at levels n) a.place ≡ p.worker) l a.worker in
       let s = one_place rows (rows_at-ascending levels u.level) a.place b.place r a_in b.place_in a_is b.place_is in
-      let w : p.worker ≡ q.worker = sym a_worker ∙ ap (worker_at workers (length rows)) s ∙ b.worker in
+      let w : p.worker ≡ q.worker = sym a_worker ∙ ap (worker_at weights workers rows) s ∙ b.worker in
       let m = same_level p q t u x.1 y.1 w l in
       let e : p ≡ q = λ k. record { worker = w k; at = m k } in
-      let same = same_task (groups levels workers) q t u (subst (λ (p : Spot). IsAt (groups levels workers) p t) e x.1) y.1 in
+      let same = same_task (groups levels weights workers) q t u (subst (λ (p : Spot). IsAt (groups levels weights workers) p t) e x.1) y.1 in
       let x2 : slice_get u.rows at ≡ Some r = subst (λ (t : RowTask). slice_get t.rows at ≡ Some r) same x.2 in
       (e, one_place u.rows (task_ascends q u y.1) at other_at r (slice_get_within u.rows at r x2) (slice_get_within u.rows other_at r y.2) (get_or_from_slice_get u.rows at r r x2) (get_or_from_slice_get u.rows other_at r r y.2))
 
-  pub are_placed : ArePlaced (length graph) (groups levels workers)
+  pub are_placed : ArePlaced (length graph) (groups levels weights workers)
   are_placed = record { rows_alone = rows_alone; stands = stands; once = once }
 
-  lower : (i j : RowId) → Depends graph i j → (p q : Spot) (u t : RowTask) → IsAt (groups levels workers) p u → IsAt (groups levels workers) q t → Contains u.rows i → Contains t.rows j → u.level < t.level
+  lower : (i j : RowId) → Depends graph i j → (p q : Spot) (u t : RowTask) → IsAt (groups levels weights workers) p u → IsAt (groups levels weights workers) q t → Contains u.rows i → Contains t.rows j → u.level < t.level
   lower i j dep p q u t hu ht iu jt =
       let a = known p u i hu (In-from u.rows i iu) in
       let b = known q t j ht (In-from t.rows j jt) in
@@ -214,7 +214,7 @@ module _ (graph : List (List RowId)) (levels : List ℕ) (workers : ℕ) (are : 
       let f = get_or-map (level_at levels) before_j dep.0 i 0 dep.1 ∙ ap (level_at levels) dep.2 in
       omega (arith, a.level, b.level, e, m, f)
 
-  pub are_levelled : AreLevelled (Depends graph) (groups levels workers)
+  pub are_levelled : AreLevelled (Depends graph) (groups levels weights workers)
   are_levelled = record {
     none_empty = λ p t h. (level_of (rows_for p.worker) 0 (above levels) p.at t (at_worker p t h).1).3;
     rise = λ w i j t u l h k. rises (rows_for w) 0 (above levels) i j t u l (at_worker (record { worker = w; at = i }) t h).1 (at_worker (record { worker = w; at = j }) u k).1;

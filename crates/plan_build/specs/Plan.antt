@@ -20,8 +20,9 @@ pub record CountsPairs (pairs : List (RowId × RowId)) (count : ℕ) : Type 0 wh
   pub same : (i j : RowId) → Contains list (i, j) ↔ Contains pairs (i, j)
   pub long : length list ≡ count
 
--- the plan has the levels, the chain, the tasks and the waits of the rows with these predecessors
-pub record IsPlan (rows : ℕ) (pairs : List (RowId × RowId)) (workers : ℕ) (built : Built) : Type 0 where
+-- the plan has the levels, the chain, the tasks and the waits of the rows with these predecessors and
+-- these weights
+pub record IsPlan (rows : ℕ) (pairs : List (RowId × RowId)) (weights : List ℕ) (workers : ℕ) (built : Built) : Type 0 where
   pub graph : List (List RowId)
   pub row_levels : List ℕ
   pub predecessors : ArePredecessors rows pairs graph
@@ -29,5 +30,5 @@ pub record IsPlan (rows : ℕ) (pairs : List (RowId × RowId)) (workers : ℕ) (
   pub edges : CountsPairs pairs built.edges
   pub levels : built.levels ≡ above row_levels
   pub chain : IsLeastChain graph row_levels built.chain
-  pub waits : HasKeptWaits (Pairs pairs) (groups row_levels workers) built.sched.workers
-  pub cross : CountsCross (Pairs pairs) (groups row_levels workers) built.cross
+  pub waits : HasKeptWaits (Pairs pairs) (groups row_levels weights workers) built.sched.workers
+  pub cross : CountsCross (Pairs pairs) (groups row_levels weights workers) built.cross
