@@ -4,4 +4,5 @@
 pub mod counts;
 pub mod made;
 pub mod shapes;
+pub mod weights;
 pub mod worked;

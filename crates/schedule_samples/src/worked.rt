@@ -48,3 +48,12 @@ pub fn over_a_third_worker(alloc: Global) -> Result<Vec<(RowId, RowId)>, AllocEr
         [(0, 3), (0, 4), (2, 5), (3, 6), (4, 7), (0, 8), (4, 8)].as_slice(),
     )
 }
+
+/// Incomplete factors of three rows with entries beside the diagonal: 2 depends on 1, and 1 only on
+/// values that stay.
+pub fn incomplete_factors(alloc: Global) -> Result<Vec<(RowId, RowId)>, AllocError>
+    ensures earlier { IfOk result (λ pairs. All (λ (p : RowId × RowId). p.0.0 < p.1.0) pairs.items) }
+    ensures below { IfOk result (λ pairs. All (λ (p : RowId × RowId). p.1.0 < 3) pairs.items) }
+{
+    valid_pairs(alloc, 3, [(1, 2)].as_slice())
+}
