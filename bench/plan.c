@@ -1,4 +1,5 @@
 /* The plan of a graph made from counters, in plain C: the counts that crates/bench_plan prints.
+ * Each row has weight 1, as there.
  * usage: plan SHAPE ROWS COLUMNS WORKERS time
  * The time is from the pairs to the schedule. */
 #include <stdint.h>
@@ -53,10 +54,18 @@ static u32 grid_neighbour(u32 row, u32 columns, int above) {
     return has_above && (above || !has_left) ? row - columns : row - 1;
 }
 
+static u32 drawn(u32 row, u32 number) {
+    u32 state = row * 7 + number;
+    state = (state ^ state >> 16) * 2146121005u;
+    state = (state ^ state >> 15) * 2221713035u;
+    return (state ^ state >> 16) % row;
+}
+
 static u32 first_of(char shape, u32 row, u32 columns, u32 number) {
     u32 back = 1 + number % 3;
     if (shape == 'c') return row > back ? row - back : 0;
     if (shape == 'g') return grid_neighbour(row, columns, number % 2 == 0);
+    if (shape == 'r') return drawn(row, number);
     return number < row - 1 ? number : row - 1;
 }
 
@@ -65,12 +74,15 @@ int main(int words, char **word) {
     char shape = word[1][0];
     u32 n = strtoul(word[2], 0, 10), columns = strtoul(word[3], 0, 10), w = strtoul(word[4], 0, 10);
     if (!n || !columns || !w || w > 64) return 2;
-    u64 many = 4 * (u64)(n - 1);
+    u32 each = shape == 'r' ? 7 : 4;
+    u64 many = each * (u64)(n - 1);
     u32 *first = room(many, sizeof(u32)), *second = room(many, sizeof(u32));
     for (u64 k = 0; k < many; k++) {
-        second[k] = 1 + k / 4;
-        first[k] = first_of(shape, second[k], columns, k % 4);
+        second[k] = 1 + k / each;
+        first[k] = first_of(shape, second[k], columns, k % each);
     }
+    u64 *weight = room(n, sizeof(u64));
+    for (u32 j = 0; j < n; j++) weight[j] = 1;
     struct timespec begin, end;
     clock_gettime(CLOCK_MONOTONIC, &begin);
 
@@ -97,13 +109,15 @@ int main(int words, char **word) {
     for (int pass = 0; pass < 2; pass++) {
         for (u32 k = 0; pass && k < w; k++) begins[k + 1] = begins[k] + has[k], has[k] = 0;
         for (u32 l = 0; l < count; l++) {
-            u64 m = rows.starts[l + 1] - rows.starts[l];
-            for (u64 s = 0, end; s < m; s = end) {
-                u32 worker = s * w / m, here = begins[worker] + has[worker];
-                end = ((worker + 1) * m + w - 1) / w;
-                if (pass) {
-                    owner[here] = worker, place[here] = has[worker];
-                    for (u64 k = s; k < end; k++) task[rows.flat[rows.starts[l] + k]] = here;
+            u64 total = 0, before = 0;
+            for (u64 k = rows.starts[l]; k < rows.starts[l + 1]; k++) total += weight[rows.flat[k]];
+            for (u64 k = rows.starts[l]; k < rows.starts[l + 1];) {
+                u32 worker = (unsigned __int128)before * w / total, here = begins[worker] + has[worker];
+                u64 limit = ((unsigned __int128)(worker + 1) * total + w - 1) / w;
+                if (pass) owner[here] = worker, place[here] = has[worker];
+                for (; before < limit; k++) {
+                    before += weight[rows.flat[k]];
+                    if (pass) task[rows.flat[k]] = here;
                 }
                 has[worker]++;
             }
@@ -119,20 +133,23 @@ int main(int words, char **word) {
             if (owner[a] != owner[b]) from[crossing] = a, to[crossing++] = b;
         }
     struct lists cross = firsts_of(tasks, from, to, crossing);
-    /* those with no task between */
-    u32 *earlier = room(tasks, sizeof(u32)), *between = room(tasks, sizeof(u32));
+    /* those with no task between: after has the tasks that each task is crossed with */
+    u32 *named = room(crossing, sizeof(u32));
+    for (u32 t = 0; t < tasks; t++)
+        for (u64 at = cross.starts[t]; at < cross.starts[t + 1]; at++) named[at] = t;
+    struct lists after = by_key(tasks, cross.flat, named, cross.starts[tasks]);
+    u32 *earlier = room(tasks, sizeof(u32)), *among = room(tasks, sizeof(u32));
     u32 *waits = room(2 * cross.starts[tasks], sizeof(u32));
     u64 kept = 0;
     for (u32 t = 0; t < tasks; t++) {
-        for (u64 at = cross.starts[t]; at < cross.starts[t + 1]; at++) {
-            u32 v = cross.flat[at];
-            for (u64 k = cross.starts[v]; k < cross.starts[v + 1]; k++) between[cross.flat[k]] = t + 1;
-        }
+        for (u64 at = cross.starts[t]; at < cross.starts[t + 1]; at++) among[cross.flat[at]] = t + 1;
         for (u64 at = cross.starts[t]; at < cross.starts[t + 1]; at++) {
             u32 u = cross.flat[at];
             int last = at + 1 == cross.starts[t + 1] || owner[cross.flat[at + 1]] != owner[u];
-            if (last && earlier[u] != owner[t] + 1 && between[u] != t + 1)
-                waits[2 * kept] = owner[u], waits[2 * kept++ + 1] = place[u] + 1;
+            if (!last || earlier[u] == owner[t] + 1) continue;
+            u64 k = after.starts[u];
+            while (k < after.starts[u + 1] && among[after.flat[k]] != t + 1) k++;
+            if (k == after.starts[u + 1]) waits[2 * kept] = owner[u], waits[2 * kept++ + 1] = place[u] + 1;
         }
         for (u64 at = cross.starts[t]; at < cross.starts[t + 1]; at++) earlier[cross.flat[at]] = owner[t] + 1;
     }

@@ -1,16 +1,18 @@
 #!/bin/sh
 # Plans a million rows with four pairs each, by turns with the proved plan and with a C program: a chain, a
-# grid of 1,999 levels and one wide level. Prints what came out, the least milliseconds of each from the
+# grid of 1,999 levels and one wide level; then 1,048,576 rows that each depend on seven earlier ones, which
+# are drawn. Prints what came out, the least milliseconds of each from the
 # pairs to the schedule, their ratio, and the most memory held, where /usr/bin/time is there. The pairs
 # alone take 32 MB. Without a C compiler the comparison is skipped.
 #
-# usage: bench/plan.sh [ROWS [WORKERS [TURNS]]]      (1000000 4 3)
+# usage: bench/plan.sh [ROWS [WORKERS [TURNS [DRAWN]]]]      (1000000 4 3 1048576)
 # Ends with 1 where the two plans differ or the proved one takes more than 3 seconds.
 set -eu
 cd "$(dirname "$0")/.."
 rows=${1:-1000000}
 workers=${2:-4}
 turns=${3:-3}
+drawn=${4:-1048576}
 here=$(pwd)
 work=$(mktemp -d)
 trap 'rm -rf "$work"' EXIT
@@ -27,7 +29,8 @@ took() { awk '$1 == "milliseconds" { print $2 }' "$1"; }
 least() { if [ -z "$1" ] || [ "$2" -lt "$1" ]; then echo "$2"; else echo "$1"; fi; }
 
 status=0
-for shape in chain grid wide; do
+for shape in chain grid wide random; do
+    [ "$shape" != random ] || rows=$drawn
     best_proved= best_c= turn=0
     while [ "$turn" -lt "$turns" ]; do
         "$proved" "$shape" "$rows" 1000 "$workers" time >"$work/proved"

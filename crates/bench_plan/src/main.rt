@@ -1,11 +1,12 @@
 //! Plans a graph made from counters: the words are SHAPE ROWS COLUMNS WORKERS, and `time` after them
-//! prints how long the planning took. SHAPE is `chain`, `grid` or `wide`.
+//! prints how long the planning took. Each row has weight 1. SHAPE is `chain`, `grid`, `wide` or `random`.
 #![tactic(auto)]
 
 mod plan;
 
 use crate::plan::plan;
 use schedule_samples::shapes::{Shape, pairs};
+use schedule_samples::weights::valid_weights;
 use std::time::Instant;
 use std::{env, io};
 
@@ -27,6 +28,7 @@ fn asked_for(words: &[String]) -> Option<Request> {
         "chain" => Shape::Chain,
         "grid" => Shape::Grid,
         "wide" => Shape::Wide,
+        "random" => Shape::Random,
         _ => return None,
     };
     Some(Request {
@@ -47,8 +49,15 @@ fn serve(rt: &HostRuntime, asked: &Request) -> io::Result<()> {
     }
     let pairs = pairs(rt.alloc(), asked.shape, asked.rows, asked.columns)?;
     let many = pairs.len();
+    let weights = valid_weights(rt.alloc(), asked.rows, &[])?;
     let start = Instant::now(rt)?;
-    let Ok(counts) = plan(rt.alloc(), asked.rows, pairs, asked.workers) else {
+    let Ok(counts) = plan(
+        rt.alloc(),
+        asked.rows,
+        pairs,
+        weights.as_slice(),
+        asked.workers,
+    ) else {
         return Ok(());
     };
     let took = start.elapsed(rt)?;
