@@ -1,0 +1,10 @@
+use Rattle.std.proofs.Common.{rules, ◌≡◌, negsuc, ◌-ℤ◌, ◌∙◌, ap, FitsSigned, to_z, of_z}
+use mir.Syntax.{w128}
+use Rattle.std.proofs.lemmas.Int.{to_z-of_z, ints}
+use Rattle.inspector_gen.specs.Known.{knows}
+use Rattle.inspector_gen.proofs.ways.is_below.Goals as goal
+
+pub returns : goal.returns
+returns c = λ bounds table.
+    let fits : FitsSigned w128 (negsuc 0 -ℤ c.args.e) = search (ints, rules) in
+    search (rules, ints, fits, c.knows.ensures bounds table)

@@ -1,0 +1,5 @@
+pub mod Variables
+pub mod Known
+pub mod Kinds
+pub mod Made
+pub mod Plans

@@ -1,0 +1,15 @@
+//! The inspection plan of a relation.
+#![tactic(auto)]
+
+mod entries;
+mod fixed;
+mod kind;
+mod known;
+mod operations;
+mod order;
+pub mod plan;
+mod steps;
+mod tests;
+mod unknown;
+mod variables;
+mod ways;

@@ -1,0 +1,89 @@
+// The inspection plan of a relation.
+ghost use Rattle.std.specs.Prelude.{◌≡◌, IfOk};
+ghost use Rattle.inspector_gen.specs.Made.{facts_of};
+ghost use Rattle.inspector_gen.specs.Known.{Bounds, IsTable};
+ghost use Rattle.inspector_gen.specs.Kinds.{Facts, kind_of as kind_by};
+ghost use Rattle.inspector_gen.specs.Made.{AreFacts};
+ghost use Rattle.inspector_gen.specs.Plans.{cheaper as cheaper_of, emit as emit_of, plan_of};
+
+use crate::order::{is_cheaper, kinds};
+use crate::steps::steps;
+use crate::unknown::Unknown;
+use crate::variables::{first_side_first, second_side_first};
+use bound_close::closure::Closure;
+use dep_extract::extract::sites;
+use inspector_run::plan::{InspOp, InspPlan};
+use loop_core::decl::{Decl, PropDecl};
+use loop_core::nest::{Nest, Side, VarId};
+use sqlite_items::Items;
+use std::alloc::Global;
+use uf_constraints::system::Relation;
+use wave_base::types::Memory;
+
+// The cheaper of two orders, and the first where both cost the same.
+fn cheaper(
+    alloc: Global,
+    decls: &[Decl],
+    props: &[PropDecl],
+    closure: &Closure,
+    first: Items<Unknown>,
+    second: Items<Unknown>,
+) -> Result<Items<Unknown>, Memory>
+    ensures { IfOk result (λ order. (f : Facts) → AreFacts decls.now props.now closure.now f → order ≡ cheaper_of (kind_by f) first second) }
+{
+    let ahead = kinds(alloc, decls, props, closure, first.as_slice())?;
+    let other = kinds(alloc, decls, props, closure, second.as_slice())?;
+    if is_cheaper(other.as_slice(), ahead.as_slice()) {
+        Ok(second)
+    } else {
+        Ok(first)
+    }
+}
+
+fn emit(nest: &Nest) -> InspOp
+    ensures { result ≡ emit_of nest.now }
+{
+    InspOp::Emit {
+        first: VarId {
+            line: nest.line,
+            side: Side::First,
+        },
+        second: VarId {
+            line: nest.line,
+            side: Side::Second,
+        },
+    }
+}
+
+/// The inspection plan of a relation, by the closure of its system.
+///
+/// A variable that is a known term of those before it is given; one at which an entry is such a term is
+/// found by an inverse list; one at which an array that rises passes such a term is located by a search;
+/// any other is looped. Of the two orders of the sides the one with fewer loops is taken, then that with
+/// fewer found and then with fewer located variables. Each constraint of the base is tested as soon as
+/// its variables are fixed. Out of memory is the only refusal.
+pub fn plan_for(
+    alloc: Global,
+    nest: &Nest,
+    r: &Relation,
+    closure: &Closure,
+) -> Result<InspPlan, Memory>
+    ensures plan { IfOk result (λ plan. (bounds : Bounds) → IsTable closure.now bounds → plan.ops ≡ plan_of nest.now (facts_of nest.now closure.now bounds) r.now) }
+{
+    let decls = nest.decls.as_slice();
+    let props = nest.props.as_slice();
+    let sites = sites(alloc, nest)?;
+    let first = first_side_first(alloc, nest, sites.as_slice(), r)?;
+    let second = second_side_first(alloc, nest, sites.as_slice(), r)?;
+    let order = cheaper(alloc, decls, props, closure, first, second)?;
+    let mut ops = steps(
+        alloc,
+        decls,
+        props,
+        closure,
+        r.base.as_slice(),
+        order.as_slice(),
+    )?;
+    ops.push(emit(nest))?;
+    Ok(InspPlan { ops })
+}
