@@ -116,6 +116,22 @@ fn are_alike(one: &Closure, two: &Closure) -> bool {
     true
 }
 
+// Whether a closure answers like the one that grew from a place of the base on.
+fn grows_alike(
+    alloc: Global,
+    whole: &Closure,
+    u: &Universe,
+    rules: &[RuleInst],
+    base: &[Diff],
+    from: usize,
+) -> Result<bool, Memory>
+    requires base { AreOver u.now.atoms base.now }
+    requires rules { AreRulesOver u.now.atoms rules.now }
+{
+    let other = grown(alloc, u, rules, base, from)?;
+    Ok(are_alike(whole, &other))
+}
+
 // Whether the closure of a base is the one that grew, whichever constraint comes when.
 fn alike_in_any_order(
     alloc: Global,
@@ -127,10 +143,10 @@ fn alike_in_any_order(
     requires rules { AreRulesOver u.now.atoms rules.now }
 {
     let whole = close(alloc, u, base, rules)?;
-    let forth = grown(alloc, u, rules, base, 0)?;
-    let back = grown(alloc, u, rules, base, base.len())?;
-    let mixed = grown(alloc, u, rules, base, base.len() / 2)?;
-    Ok(are_alike(&whole, &forth) && are_alike(&whole, &back) && are_alike(&whole, &mixed))
+    let forth = grows_alike(alloc, &whole, u, rules, base, 0)?;
+    let back = grows_alike(alloc, &whole, u, rules, base, base.len())?;
+    let mixed = grows_alike(alloc, &whole, u, rules, base, base.len() / 2)?;
+    Ok(forth && back && mixed)
 }
 
 fn agrees(alloc: Global, counter: u32) -> Result<bool, Fail> {
