@@ -1,3 +1,15 @@
 pub mod Firsts
 pub mod Orders
 pub mod Rounds
+pub mod Lists
+pub mod Locality
+pub mod Along
+pub mod Chosen
+pub mod Scoped
+pub mod Sided
+pub mod Indexed
+pub mod Based
+pub mod Walks
+pub mod Sites
+pub mod Exact
+pub mod Least

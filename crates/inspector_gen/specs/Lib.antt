@@ -3,3 +3,4 @@ pub mod Known
 pub mod Kinds
 pub mod Made
 pub mod Plans
+pub mod Derived

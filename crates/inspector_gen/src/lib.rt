@@ -5,6 +5,7 @@ mod entries;
 mod fixed;
 mod kind;
 mod known;
+pub mod laws;
 mod operations;
 mod order;
 pub mod plan;
