@@ -12,7 +12,7 @@ use Rattle.sched_types.specs.Kept.{AreKeptWaits, HasKeptWaits}
 use Rattle.wait_sparsify.specs.Depends.{Depends, ArePlaced}
 use Rattle.wait_sparsify.specs.Attached.{waits_for, attached}
 use Rattle.wait_sparsify.specs.Numbered.{owners_from, places_from, rows_from}
-use Rattle.wait_sparsify.specs.Survivors.{kept_lists}
+use Rattle.wait_sparsify.specs.Survivors.{nexts, kept_lists}
 use Rattle.wait_sparsify.specs.Written.{written_lists}
 use Rattle.wait_sparsify.specs.Crossing.{crossing_lists}
 use Rattle.wait_sparsify.proofs.Attaching.{attached-at, same_tasks}
@@ -71,18 +71,18 @@ module _ (graph : List (List RowId)) (lists : List (List RowTask)) (cross : List
   cross_within = all_lists (λ (u : RowId). u.0 < length cross) cross (λ a u h. (is_list graph lists cross s).members a u h)
 
   -- what the sweep makes
-  module _ (owners : List ℕ) (kept : List (List RowId)) (eo : owners ≡ owners_from 0 lists) (ek : kept ≡ kept_lists cross owners 0 (replicate (length cross) 0) (replicate (length cross) 0) cross) where
-    swept : kept ≡ kept_lists cross (owners_from 0 lists) 0 (replicate (length cross) 0) (replicate (length cross) 0) cross
-    swept = ek ∙ ap (λ (o : List ℕ). kept_lists cross o 0 (replicate (length cross) 0) (replicate (length cross) 0) cross) eo
+  module _ (owners : List ℕ) (kept : List (List RowId)) (eo : owners ≡ owners_from 0 lists) (ek : kept ≡ kept_lists (nexts cross) owners 0 (replicate (length cross) 0) (replicate (length cross) 0) cross) where
+    swept : kept ≡ kept_lists (nexts cross) (owners_from 0 lists) 0 (replicate (length cross) 0) (replicate (length cross) 0) cross
+    swept = ek ∙ ap (λ (o : List ℕ). kept_lists (nexts cross) o 0 (replicate (length cross) 0) (replicate (length cross) 0) cross) eo
 
     pub swept_long : length kept ≡ length cross
-    swept_long = ap length ek ∙ length-kept_lists cross owners 0 (replicate (length cross) 0) (replicate (length cross) 0) cross
+    swept_long = ap length ek ∙ length-kept_lists (nexts cross) owners 0 (replicate (length cross) 0) (replicate (length cross) 0) cross
 
     pub swept_at : (a : ℕ) → a < length cross → AreKeptAt cross (owners_from 0 lists) a (get_or kept a [])
     swept_at a h =
         let z : 0 + a ≡ a = omega arith in
         let k = kept_lists-at cross (owners_from 0 lists) (is_list graph lists cross s) 0 (replicate (length cross) 0) (replicate (length cross) 0) cross (stamped_none cross (owners_from 0 lists)) (λ b. (let y : b ≡ 0 + b = omega arith in ap (λ k. get_or cross k []) y)) (omega arith) a h in
-        let k' = subst (λ (t : ℕ). AreKeptAt cross (owners_from 0 lists) t (get_or (kept_lists cross (owners_from 0 lists) 0 (replicate (length cross) 0) (replicate (length cross) 0) cross) a [])) z k in
+        let k' = subst (λ (t : ℕ). AreKeptAt cross (owners_from 0 lists) t (get_or (kept_lists (nexts cross) (owners_from 0 lists) 0 (replicate (length cross) 0) (replicate (length cross) 0) cross) a [])) z k in
         subst (λ (ks : List (List RowId)). AreKeptAt cross (owners_from 0 lists) a (get_or ks a [])) (sym swept) k'
 
   -- what any lists give that have the tasks to wait for

@@ -6,9 +6,10 @@ use Rattle.wave_base.specs.declared.types.RowId.{RowId}
 use Rattle.row_graph.specs.Rows.{row}
 use Rattle.row_graph.proofs.Members.{In}
 use Rattle.row_graph.proofs.Ascending.{Climbing}
-use Rattle.wait_sparsify.specs.Written.{written, written_beyond}
-use Rattle.wait_sparsify.specs.Survivors.{survivors, kept_lists}
-use Rattle.wait_sparsify.proofs.Stamping.{In-cases, length-written, length-written_beyond, written-in, written-out, beyond-in, beyond-cases}
+use Rattle.wait_sparsify.specs.Written.{written}
+use Rattle.wait_sparsify.specs.Survivors.{nexts, survivors, kept_lists}
+use Rattle.wait_sparsify.proofs.Following.{next_in, next_out}
+use Rattle.wait_sparsify.proofs.Stamping.{In-cases, length-written, written-in, written-out, stamped_in, stamped_none_of}
 use Rattle.wait_sparsify.proofs.Surviving.{Survives, survives, survives_to, climbing-left}
 
 pub zeros-at : (n u : ℕ) → ◌≡◌ {A = ℕ} (get_or (replicate n 0) u 0) 0
@@ -35,12 +36,12 @@ Keeps cross owners k l =
     In (row k) (get_or cross l []) × ((m : ℕ) → Next cross owners k m → Next cross owners m l → ⊥)
 
 -- what the stamps say when the tasks below a number are done
-pub record Stamped (cross : List (List RowId)) (owners : List ℕ) (task : ℕ) (earlier between : List ℕ) : Type 0 where
+pub record Stamped (cross : List (List RowId)) (owners : List ℕ) (task : ℕ) (earlier among : List ℕ) : Type 0 where
   pub long : length earlier ≡ length cross
-  pub wide : length between ≡ length cross
+  pub wide : length among ≡ length cross
   pub least : (u v : ℕ) → u < length cross → v < task → In (row u) (get_or cross v []) → get_or owners v 0 + 1 ≤ get_or earlier u 0
   pub comes : (u : ℕ) → u < length cross → 0 < get_or earlier u 0 → (v : ℕ) × (v < task) × (get_or earlier u 0 ≡ get_or owners v 0 + 1) × In (row u) (get_or cross v [])
-  pub low : (u : ℕ) → get_or between u 0 ≤ task
+  pub low : (u : ℕ) → get_or among u 0 ≤ task
 
 pub stamped_none : (cross : List (List RowId)) (owners : List ℕ) → Stamped cross owners 0 (replicate (length cross) 0) (replicate (length cross) 0)
 stamped_none cross owners = record {
@@ -51,7 +52,7 @@ stamped_none cross owners = record {
   low = λ u. omega (arith, zeros-at (length cross) u);
 }
 
-module _ (cross : List (List RowId)) (owners : List ℕ) (is : IsCrossList cross owners) (task : ℕ) (earlier between : List ℕ) (s : Stamped cross owners task earlier between) (within : task < length cross) where
+module _ (cross : List (List RowId)) (owners : List ℕ) (is : IsCrossList cross owners) (task : ℕ) (earlier among : List ℕ) (s : Stamped cross owners task earlier among) (within : task < length cross) where
   abbrev firsts : List RowId
   firsts = get_or cross task []
 
@@ -62,22 +63,22 @@ module _ (cross : List (List RowId)) (owners : List ℕ) (is : IsCrossList cross
   after = written (get_or owners task 0 + 1) (get_or cross task []) earlier
 
   abbrev beyond : List ℕ
-  beyond = written_beyond cross (task + 1) (get_or cross task []) between
+  beyond = written (task + 1) (get_or cross task []) among
 
   low_more : (u : ℕ) → get_or beyond u 0 ≤ task + 1
   low_more u =
-      elim (beyond-cases cross (task + 1) firsts between u) as (λ _. get_or beyond u 0 ≤ task + 1) [
-        | inl b ↦ elim (cases_lt u (length between)) as (λ _. get_or beyond u 0 ≤ task + 1) [
-          | inl l ↦ omega (arith, beyond-in cross (task + 1) firsts between u l b.0 b.1 b.2)
-          | inr g ↦ omega (arith, get_or_past beyond u 0 (omega (arith, length-written_beyond cross (task + 1) firsts between, g)))
+      elim (In-cases u firsts) as (λ _. get_or beyond u 0 ≤ task + 1) [
+        | inl i ↦ elim (cases_lt u (length among)) as (λ _. get_or beyond u 0 ≤ task + 1) [
+          | inl l ↦ omega (arith, written-in (task + 1) firsts among u l i)
+          | inr g ↦ omega (arith, get_or_past beyond u 0 (omega (arith, length-written (task + 1) firsts among, g)))
         ]
-        | inr e ↦ omega (arith, e, s.low u)
+        | inr lacks ↦ omega (arith, written-out (task + 1) firsts among u lacks, s.low u)
       ]
 
   pub stamped_more : Stamped cross owners (task + 1) after beyond
   stamped_more = record {
     long = length-written worker firsts earlier ∙ s.long;
-    wide = length-written_beyond cross (task + 1) firsts between ∙ s.wide;
+    wide = length-written (task + 1) firsts among ∙ s.wide;
     least = λ u v l h i. elim (In-cases u firsts) as (λ _. get_or owners v 0 + 1 ≤ get_or after u 0) [
       | inl j ↦
           let e = written-in worker firsts earlier u (omega (arith, s.long, l)) j in
@@ -101,16 +102,21 @@ module _ (cross : List (List RowId)) (owners : List ℕ) (is : IsCrossList cross
   }
 
   abbrev lasting : List RowId
-  lasting = survivors owners earlier (get_or owners task 0 + 1) (written_beyond cross (task + 1) (get_or cross task []) between) (task + 1) (get_or cross task [])
+  lasting = survivors owners earlier (get_or owners task 0 + 1) (written (task + 1) (get_or cross task []) among) (task + 1) (nexts cross) (get_or cross task [])
 
   keeps : (u : ℕ) → In (row u) lasting → Keeps cross owners u task
   keeps u h =
-      let t = survives owners earlier worker beyond (task + 1) (length cross) is.rises 0 firsts (row u) (is.climbs task) (is.members task) h in
+      let t = survives owners earlier worker beyond (task + 1) (nexts cross) (length cross) is.rises 0 firsts (row u) (is.climbs task) (is.members task) h in
       let l : u < length cross = is.members task (row u) t.listed in (
         t.listed,
         λ m x y. elim y as (λ _. ⊥) [
           | inl c ↦ elim x as (λ _. ⊥) [
-            | inl d ↦ t.not_between (beyond-in cross (task + 1) firsts between u (omega (arith, s.wide, l)) (row m) c d)
+            | inl d ↦
+                let i = next_in cross u m l d in
+                let e = written-in (task + 1) firsts among m (omega (arith, s.wide, is.members task (row m) c)) c in
+                let stamped = stamped_in beyond (task + 1) (get_or (nexts cross) u []) (row m) i e in
+                let none = t.not_between in
+                absurd (cc)
             | inr d ↦ t.no_later (row m) c d.1 d.0
           ]
           | inr c ↦ elim x as (λ _. ⊥) [
@@ -127,47 +133,47 @@ module _ (cross : List (List RowId)) (owners : List ℕ) (is : IsCrossList cross
   keeps_to : (u : ℕ) → Keeps cross owners u task → In (row u) lasting
   keeps_to u (i, lacks) =
       let l : u < length cross = is.members task (row u) i in
-      let t : Survives owners earlier worker beyond (task + 1) (length cross) is.rises (row u) firsts = record {
+      let t : Survives owners earlier worker beyond (task + 1) (nexts cross) (length cross) is.rises (row u) firsts = record {
         listed = i;
         not_earlier = λ e. (
             let r = s.comes u l (omega (arith, e)) in
             let q : get_or owners r.0 0 ≡ get_or owners task 0 = omega (arith, r.2, e) in
             lacks r.0 (inl r.3) (inr (q, r.1, within)));
-        not_between = λ e. elim (beyond-cases cross (task + 1) firsts between u) as (λ _. ⊥) [
-          | inl b ↦ lacks b.0.0 (inl b.2) (inl b.1)
-          | inr q ↦ omega (arith, e, q, s.low u)
-        ];
+        not_between = stamped_none_of beyond (task + 1) (get_or (nexts cross) u []) (λ v j e. elim (In-cases v.0 firsts) as (λ _. ⊥) [
+          | inl h ↦ lacks v.0 (inl (next_out cross u v l j)) (inl h)
+          | inr out ↦ omega (arith, e, written-out (task + 1) firsts among v.0 out, s.low v.0)
+        ]);
         no_later = λ v j lt q. lacks v.0 (inr (q, lt, is.members task v j)) (inl j);
       } in
-      survives_to owners earlier worker beyond (task + 1) (length cross) is.rises 0 firsts (row u) (is.climbs task) t i
+      survives_to owners earlier worker beyond (task + 1) (nexts cross) (length cross) is.rises 0 firsts (row u) (is.climbs task) t i
 
   pub kept_here : ((u : ℕ) → In (row u) lasting ↔ Keeps cross owners u task) × Climbing 0 lasting
   kept_here =
-      (λ u. (keeps u, keeps_to u), climbing-left owners earlier worker beyond (task + 1) (length cross) is.rises 0 firsts (is.climbs task))
+      (λ u. (keeps u, keeps_to u), climbing-left owners earlier worker beyond (task + 1) (nexts cross) (length cross) is.rises 0 firsts (is.climbs task))
 
 -- a list has the tasks that a task has to wait for, ascending
 abbrev pub AreKeptAt : List (List RowId) → List ℕ → ℕ → List RowId → Type 0
 AreKeptAt cross owners l list = ((u : ℕ) → In (row u) list ↔ Keeps cross owners u l) × Climbing 0 list
 
-pub length-kept_lists : (cross : List (List RowId)) (owners : List ℕ) (task : ℕ) (earlier between : List ℕ) (lists : List (List RowId)) → length (kept_lists cross owners task earlier between lists) ≡ length lists
-length-kept_lists cross owners task earlier between [] = refl
-length-kept_lists cross owners task earlier between (firsts ∷ lists) =
-    ap suc (length-kept_lists cross owners (task + 1) (written (get_or owners task 0 + 1) firsts earlier) (written_beyond cross (task + 1) firsts between) lists)
+pub length-kept_lists : (after : List (List RowId)) (owners : List ℕ) (task : ℕ) (earlier among : List ℕ) (lists : List (List RowId)) → length (kept_lists after owners task earlier among lists) ≡ length lists
+length-kept_lists after owners task earlier among [] = refl
+length-kept_lists after owners task earlier among (firsts ∷ lists) =
+    ap suc (length-kept_lists after owners (task + 1) (written (get_or owners task 0 + 1) firsts earlier) (written (task + 1) firsts among) lists)
 
-pub kept_lists-at : (cross : List (List RowId)) (owners : List ℕ) (is : IsCrossList cross owners) (task : ℕ) (earlier between : List ℕ) (lists : List (List RowId)) → Stamped cross owners task earlier between → ((a : ℕ) → get_or lists a [] ≡ get_or cross (task + a) []) → task + length lists ≡ length cross → (a : ℕ) → a < length lists → AreKeptAt cross owners (task + a) (get_or (kept_lists cross owners task earlier between lists) a [])
-kept_lists-at cross owners is task earlier between [] s same long a h = absurd (omega (arith, h))
-kept_lists-at cross owners is task earlier between (firsts ∷ lists) s same long zero h =
+pub kept_lists-at : (cross : List (List RowId)) (owners : List ℕ) (is : IsCrossList cross owners) (task : ℕ) (earlier among : List ℕ) (lists : List (List RowId)) → Stamped cross owners task earlier among → ((a : ℕ) → get_or lists a [] ≡ get_or cross (task + a) []) → task + length lists ≡ length cross → (a : ℕ) → a < length lists → AreKeptAt cross owners (task + a) (get_or (kept_lists (nexts cross) owners task earlier among lists) a [])
+kept_lists-at cross owners is task earlier among [] s same long a h = absurd (omega (arith, h))
+kept_lists-at cross owners is task earlier among (firsts ∷ lists) s same long zero h =
     let z : task + zero ≡ task = omega arith in
     let e : firsts ≡ get_or cross task [] = same zero ∙ ap (λ k. get_or cross k []) z in
-    let k = kept_here cross owners is task earlier between s (omega (arith, long)) in
-    subst (λ (t : ℕ). AreKeptAt cross owners t (survivors owners earlier (get_or owners task 0 + 1) (written_beyond cross (task + 1) firsts between) (task + 1) firsts)) (sym z)
-    (subst (λ (fs : List RowId). AreKeptAt cross owners task (survivors owners earlier (get_or owners task 0 + 1) (written_beyond cross (task + 1) fs between) (task + 1) fs)) (sym e) k)
-kept_lists-at cross owners is task earlier between (firsts ∷ lists) s same long (suc a) h =
+    let k = kept_here cross owners is task earlier among s (omega (arith, long)) in
+    subst (λ (t : ℕ). AreKeptAt cross owners t (survivors owners earlier (get_or owners task 0 + 1) (written (task + 1) firsts among) (task + 1) (nexts cross) firsts)) (sym z)
+    (subst (λ (fs : List RowId). AreKeptAt cross owners task (survivors owners earlier (get_or owners task 0 + 1) (written (task + 1) fs among) (task + 1) (nexts cross) fs)) (sym e) k)
+kept_lists-at cross owners is task earlier among (firsts ∷ lists) s same long (suc a) h =
     let z : task + zero ≡ task = omega arith in
     let e : firsts ≡ get_or cross task [] = same zero ∙ ap (λ k. get_or cross k []) z in
-    let m = stamped_more cross owners is task earlier between s (omega (arith, long)) in
-    let m' = subst (λ (fs : List RowId). Stamped cross owners (task + 1) (written (get_or owners task 0 + 1) fs earlier) (written_beyond cross (task + 1) fs between)) (sym e) m in
+    let m = stamped_more cross owners is task earlier among s (omega (arith, long)) in
+    let m' = subst (λ (fs : List RowId). Stamped cross owners (task + 1) (written (get_or owners task 0 + 1) fs earlier) (written (task + 1) fs among)) (sym e) m in
     let q : task + 1 + a ≡ task + suc a = omega arith in
     let next : (b : ℕ) → get_or lists b [] ≡ get_or cross (task + 1 + b) [] = λ b. (let p : task + suc b ≡ task + 1 + b = omega arith in same (suc b) ∙ ap (λ k. get_or cross k []) p) in
-    let r = kept_lists-at cross owners is (task + 1) (written (get_or owners task 0 + 1) firsts earlier) (written_beyond cross (task + 1) firsts between) lists m' next (omega (arith, long)) a (omega (arith, h)) in
-    subst (λ (t : ℕ). AreKeptAt cross owners t (get_or (kept_lists cross owners (task + 1) (written (get_or owners task 0 + 1) firsts earlier) (written_beyond cross (task + 1) firsts between) lists) a [])) q r
+    let r = kept_lists-at cross owners is (task + 1) (written (get_or owners task 0 + 1) firsts earlier) (written (task + 1) firsts among) lists m' next (omega (arith, long)) a (omega (arith, h)) in
+    subst (λ (t : ℕ). AreKeptAt cross owners t (get_or (kept_lists (nexts cross) owners (task + 1) (written (get_or owners task 0 + 1) firsts earlier) (written (task + 1) firsts among) lists) a [])) q r

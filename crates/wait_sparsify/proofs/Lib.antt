@@ -3,6 +3,7 @@ pub mod Bounds
 pub mod Counting
 pub mod Crossings
 pub mod Deciding
+pub mod Following
 pub mod Keeping
 pub mod Numbering
 pub mod Ordering

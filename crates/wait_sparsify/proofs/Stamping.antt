@@ -1,11 +1,12 @@
 -- What stamps say after some were written.
-use Rattle.std.proofs.Common.{◌≡◌, ℕ, ◌<◌, ◌∙◌, ◌⊎◌, inl, inr, List, [], ◌∷◌, length, get_or, set, arith, refl, ap, sym, subst}
-use Rattle.std.proofs.lemmas.Bool.{cases_eq}
+use Rattle.std.proofs.Common.{◌≡◌, ℕ, ◌<◌, ◌∙◌, ◌⊎◌, inl, inr, List, [], ◌∷◌, Bool, true, false, eqb, ◌||◌, length, get_or, set, arith, refl, ap, sym}
+use Rattle.std.proofs.lemmas.Bool.{cases_eq, ne_eqb, eq-eqb, or_from}
 use Rattle.std.proofs.lemmas.List.{length-set, get_or-set_same, get_or-set_other}
 use Rattle.wave_base.specs.declared.types.RowId.{RowId}
 use Rattle.row_graph.specs.Rows.{row}
 use Rattle.row_graph.proofs.Members.{In}
-use Rattle.wait_sparsify.specs.Written.{written, written_beyond}
+use Rattle.wait_sparsify.specs.Survivors.{is_stamped}
+use Rattle.wait_sparsify.specs.Written.{written}
 
 -- a row is among some, or not
 pub In-cases : (u : ℕ) (rows : List RowId) → In (row u) rows ⊎ (In (row u) rows → ⊥)
@@ -22,11 +23,6 @@ In-cases u (r ∷ rows) =
 pub length-written : (value : ℕ) (rows : List RowId) (numbers : List ℕ) → length (written value rows numbers) ≡ length numbers
 length-written value [] numbers = refl
 length-written value (r ∷ rows) numbers = length-written value rows (set numbers r.0 value) ∙ length-set numbers r.0 value
-
-pub length-written_beyond : (lists : List (List RowId)) (value : ℕ) (rows : List RowId) (numbers : List ℕ) → length (written_beyond lists value rows numbers) ≡ length numbers
-length-written_beyond lists value [] numbers = refl
-length-written_beyond lists value (r ∷ rows) numbers =
-    length-written_beyond lists value rows (written value (get_or lists r.0 []) numbers) ∙ length-written value (get_or lists r.0 []) numbers
 
 -- a number that is the value stays so
 written-stays : (value : ℕ) (rows : List RowId) (numbers : List ℕ) (u : ℕ) → u < length numbers → get_or numbers u 0 ≡ value → get_or (written value rows numbers) u 0 ≡ value
@@ -55,37 +51,22 @@ written-out value (r ∷ rows) numbers u lacks =
     let ne : u ≡ r.0 → ⊥ = λ (e : u ≡ r.0). lacks (inl (ap row (sym e))) in
     written-out value rows (set numbers r.0 value) u (λ h. lacks (inr h)) ∙ get_or-set_other numbers r.0 u value 0 ne
 
--- a number is of one of the lists that are named
-abbrev pub IsBeyond : List (List RowId) → List RowId → ℕ → Type 0
-IsBeyond lists rows u = (v : RowId) × In v rows × In (row u) (get_or lists v.0 [])
+or_left : (a b : Bool) → a ≡ true → (a || b) ≡ true
+or_left true b e = refl
+or_left false b e = absurd (cc)
 
-beyond-stays : (lists : List (List RowId)) (value : ℕ) (rows : List RowId) (numbers : List ℕ) (u : ℕ) → u < length numbers → get_or numbers u 0 ≡ value → get_or (written_beyond lists value rows numbers) u 0 ≡ value
-beyond-stays lists value [] numbers u l e = e
-beyond-stays lists value (r ∷ rows) numbers u l e =
-    let list = get_or lists r.0 [] in
-    let m : u < length (written value list numbers) = omega (arith, length-written value list numbers, l) in
-    beyond-stays lists value rows (written value list numbers) u m (written-stays value list numbers u l e)
+or_right : (a b : Bool) → b ≡ true → (a || b) ≡ true
+or_right true b e = refl
+or_right false b e = e
 
-pub beyond-in : (lists : List (List RowId)) (value : ℕ) (rows : List RowId) (numbers : List ℕ) (u : ℕ) → u < length numbers → (v : RowId) → In v rows → In (row u) (get_or lists v.0 []) → get_or (written_beyond lists value rows numbers) u 0 ≡ value
-beyond-in lists value [] numbers u l v h i = absurd h
-beyond-in lists value (r ∷ rows) numbers u l v (inl e) i =
-    let list = get_or lists r.0 [] in
-    let j = subst (λ (r : RowId). In (row u) (get_or lists r.0 [])) (sym e) i in
-    let m : u < length (written value list numbers) = omega (arith, length-written value list numbers, l) in
-    beyond-stays lists value rows (written value list numbers) u m (written-in value list numbers u l j)
-beyond-in lists value (r ∷ rows) numbers u l v (inr h) i =
-    let list = get_or lists r.0 [] in
-    let m : u < length (written value list numbers) = omega (arith, length-written value list numbers, l) in
-    beyond-in lists value rows (written value list numbers) u m v h i
+pub stamped_in : (numbers : List ℕ) (value : ℕ) (rows : List RowId) (v : RowId) → In v rows → get_or numbers v.0 0 ≡ value → is_stamped numbers value rows ≡ true
+stamped_in numbers value [] v h e = absurd h
+stamped_in numbers value (r ∷ rows) v (inl q) e =
+    let z : r.0 ≡ v.0 = ap (λ (r : RowId). r.0) q in
+    or_left (eqb (get_or numbers r.0 0) value) (is_stamped numbers value rows) (eq-eqb (get_or numbers r.0 0) value (ap (λ k. get_or numbers k 0) z ∙ e))
+stamped_in numbers value (r ∷ rows) v (inr h) e = or_right (eqb (get_or numbers r.0 0) value) (is_stamped numbers value rows) (stamped_in numbers value rows v h e)
 
-pub beyond-cases : (lists : List (List RowId)) (value : ℕ) (rows : List RowId) (numbers : List ℕ) (u : ℕ) → IsBeyond lists rows u ⊎ (get_or (written_beyond lists value rows numbers) u 0 ≡ get_or numbers u 0)
-beyond-cases lists value [] numbers u = inr refl
-beyond-cases lists value (r ∷ rows) numbers u =
-    let list = get_or lists r.0 [] in
-    elim (beyond-cases lists value rows (written value list numbers) u) as (λ _. IsBeyond lists (r ∷ rows) u ⊎ (get_or (written_beyond lists value rows (written value list numbers)) u 0 ≡ get_or numbers u 0)) [
-      | inl b ↦ inl (b.0, inr b.1, b.2)
-      | inr e ↦ elim (In-cases u list) as (λ _. IsBeyond lists (r ∷ rows) u ⊎ (get_or (written_beyond lists value rows (written value list numbers)) u 0 ≡ get_or numbers u 0)) [
-        | inl i ↦ inl (r, inl refl, i)
-        | inr lacks ↦ inr (e ∙ written-out value list numbers u lacks)
-      ]
-    ]
+pub stamped_none_of : (numbers : List ℕ) (value : ℕ) (rows : List RowId) → ((v : RowId) → In v rows → get_or numbers v.0 0 ≡ value → ⊥) → is_stamped numbers value rows ≡ false
+stamped_none_of numbers value [] h = refl
+stamped_none_of numbers value (r ∷ rows) h =
+    or_from (eqb (get_or numbers r.0 0) value) (is_stamped numbers value rows) (ne_eqb (get_or numbers r.0 0) value (h r (inl refl))) (stamped_none_of numbers value rows (λ v i. h v (inr i)))

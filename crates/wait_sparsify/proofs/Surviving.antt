@@ -6,7 +6,7 @@ use Rattle.row_graph.specs.Predecessors.{AreAscending}
 use Rattle.row_graph.proofs.Members.{In}
 use Rattle.row_graph.proofs.Ascending.{Climbing, Climbing-lower}
 use Rattle.wait_sparsify.proofs.Skips.{skip, skip_first, skip_rest}
-use Rattle.wait_sparsify.specs.Survivors.{is_followed, is_dropped, survivors}
+use Rattle.wait_sparsify.specs.Survivors.{is_followed, is_stamped, is_dropped, survivors}
 
 pub Climbing-in : (low : ℕ) (rows : List RowId) (v : RowId) → Climbing low rows → In v rows → low ≤ v.0
 Climbing-in low [] v c h = absurd h
@@ -18,7 +18,7 @@ climbing_from low [] h asc = tt
 climbing_from low (r ∷ rows) h asc =
     (h r (omega arith), climbing_from (r.0 + 1) rows (λ d l. (let a = asc zero (suc zero) d (omega arith) (omega (arith, l)) in omega (arith, a))) (λ i j d l m. asc (suc i) (suc j) d (omega (arith, l)) (omega (arith, m))))
 
-module _ (owners earlier : List ℕ) (worker : ℕ) (between : List ℕ) (task top : ℕ) (mono : (a b : ℕ) → a ≤ b → b < top → get_or owners a 0 ≤ get_or owners b 0) where
+module _ (owners earlier : List ℕ) (worker : ℕ) (among : List ℕ) (task : ℕ) (after : List (List RowId)) (top : ℕ) (mono : (a b : ℕ) → a ≤ b → b < top → get_or owners a 0 ≤ get_or owners b 0) where
   -- no later task among some is on the same worker
   abbrev pub NoLater : RowId → List RowId → Type 0
   NoLater u tasks = (v : RowId) → In v tasks → u.0 < v.0 → get_or owners u.0 0 ≡ get_or owners v.0 0 → ⊥
@@ -26,14 +26,14 @@ module _ (owners earlier : List ℕ) (worker : ℕ) (between : List ℕ) (task t
   pub record Survives (u : RowId) (tasks : List RowId) : Type 0 where
     pub listed : In u tasks
     pub not_earlier : get_or earlier u.0 0 ≡ worker → ⊥
-    pub not_between : get_or between u.0 0 ≡ task → ⊥
+    pub not_between : is_stamped among task (get_or after u.0 []) ≡ false
     pub no_later : NoLater u tasks
 
   abbrev pub left : List RowId → List RowId
-  left tasks = survivors owners earlier worker between task tasks
+  left tasks = survivors owners earlier worker among task after tasks
 
   abbrev pub out : RowId → List RowId → Bool
-  out u tasks = is_dropped owners earlier worker between task u tasks
+  out u tasks = is_dropped owners earlier worker among task after u tasks
 
   not_followed : (u : RowId) (tasks : List RowId) → is_followed owners u tasks ≡ false → Climbing (u.0 + 1) tasks → ((v : RowId) → In v tasks → v.0 < top) → NoLater u (u ∷ tasks)
   not_followed u tasks f c below v (inl e) l q = let s : u.0 ≡ v.0 = ap (λ (r : RowId). r.0) e in omega (arith, s, l)
@@ -49,12 +49,12 @@ module _ (owners earlier : List ℕ) (worker : ℕ) (between : List ℕ) (task t
   survives low (u ∷ tasks) x c below h =
       elim (skip (out u tasks) u (left tasks) x h) as (λ _. Survives x (u ∷ tasks)) [
         | inl w ↦
-            let p = or_parts (is_followed owners u tasks) (eqb (get_or earlier u.0 0) worker || eqb (get_or between u.0 0) task) w.0 in
-            let q = or_parts (eqb (get_or earlier u.0 0) worker) (eqb (get_or between u.0 0) task) p.1 in
+            let p = or_parts (is_followed owners u tasks) (eqb (get_or earlier u.0 0) worker || is_stamped among task (get_or after u.0 [])) w.0 in
+            let q = or_parts (eqb (get_or earlier u.0 0) worker) (is_stamped among task (get_or after u.0 [])) p.1 in
             let here : Survives u (u ∷ tasks) = record {
               listed = inl refl;
               not_earlier = eqb-false (get_or earlier u.0 0) worker q.0;
-              not_between = eqb-false (get_or between u.0 0) task q.1;
+              not_between = q.1;
               no_later = not_followed u tasks p.0 c.1 (λ v i. below v (inr i));
             } in
             subst (λ (x : RowId). Survives x (u ∷ tasks)) w.1 here
@@ -82,8 +82,8 @@ module _ (owners earlier : List ℕ) (worker : ℕ) (between : List ℕ) (task t
       let s' : Survives u (u ∷ tasks) = subst (λ (x : RowId). Survives x (u ∷ tasks)) (sym e) s in
       let f = followed_none u tasks c.1 s'.no_later in
       let a = ne_eqb (get_or earlier u.0 0) worker s'.not_earlier in
-      let b = ne_eqb (get_or between u.0 0) task s'.not_between in
-      let d = or_from (is_followed owners u tasks) (eqb (get_or earlier u.0 0) worker || eqb (get_or between u.0 0) task) f (or_from (eqb (get_or earlier u.0 0) worker) (eqb (get_or between u.0 0) task) a b) in
+      let b = s'.not_between in
+      let d = or_from (is_followed owners u tasks) (eqb (get_or earlier u.0 0) worker || is_stamped among task (get_or after u.0 [])) f (or_from (eqb (get_or earlier u.0 0) worker) (is_stamped among task (get_or after u.0 [])) a b) in
       subst (λ (x : RowId). In x (left (u ∷ tasks))) e (skip_first (out u tasks) u (left tasks) d)
   survives_to low (u ∷ tasks) x c s (inr h) =
       let rest : Survives x tasks = record { listed = h; not_earlier = s.not_earlier; not_between = s.not_between; no_later = λ v i. s.no_later v (inr i) } in

@@ -1,5 +1,5 @@
 -- One value written at each of some places.
-use Rattle.std.specs.Prelude.{ℕ, ◌+◌, List, [], ◌∷◌, slice_set, slice_index_or}
+use Rattle.std.specs.Prelude.{ℕ, ◌+◌, List, [], ◌∷◌, slice_set}
 use Rattle.wave_base.specs.declared.types.RowId.{RowId}
 
 -- the numbers after a value is written at each of these rows
@@ -11,8 +11,3 @@ written value (r ∷ rows) numbers = written value rows (slice_set numbers r.0 v
 abbrev pub written_lists : ℕ → List (List RowId) → List ℕ → List ℕ
 written_lists number [] numbers = numbers
 written_lists number (rows ∷ lists) numbers = written_lists (number + 1) lists (written number rows numbers)
-
--- the numbers after a value is written at all rows of the lists that these rows name
-abbrev pub written_beyond : List (List RowId) → ℕ → List RowId → List ℕ → List ℕ
-written_beyond lists value [] numbers = numbers
-written_beyond lists value (r ∷ rows) numbers = written_beyond lists value rows (written value (slice_index_or lists r.0 []) numbers)

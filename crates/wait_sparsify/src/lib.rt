@@ -3,6 +3,7 @@
 
 mod attached;
 mod crossing;
+mod followers;
 mod kept;
 mod numbered;
 pub mod plain;

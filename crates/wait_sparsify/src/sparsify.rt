@@ -5,13 +5,13 @@ ghost use Rattle.sched_types.specs.Fits.{Fits};
 ghost use Rattle.sched_types.specs.Kept.{HasKeptWaits};
 ghost use Rattle.wait_sparsify.specs.Crossing.{crossing_lists};
 ghost use Rattle.wait_sparsify.specs.Depends.{ArePlaced, AreLevelled, CountsCross, Depends};
-ghost use Rattle.wait_sparsify.specs.Numbered.{owners_from, places_from, rows_from};
+ghost use Rattle.wait_sparsify.specs.Numbered.{owners_from, rows_from};
 ghost use Rattle.wait_sparsify.specs.Written.{written_lists};
 
 use crate::attached::attach;
 use crate::crossing::{Seated, crossing_pairs};
 use crate::kept::kept_of_each;
-use crate::numbered::{Seats, rows_of_each, seats_of, small, task_of_each};
+use crate::numbered::{rows_of_each, seats_of, small, task_of_each};
 use row_graph::firsts::firsts_of_each;
 use row_graph::lists::Lists;
 use row_graph::preds::Preds;

@@ -1,7 +1,7 @@
 use Rattle.std.proofs.Common.{◌≡◌, ◌∙◌, ℕ, List, length, replicate, ap, sym, subst}
 use Rattle.wait_sparsify.specs.Depends.{Depends, CountsCross}
 use Rattle.wait_sparsify.specs.Numbered.{owners_from, places_from}
-use Rattle.wait_sparsify.specs.Survivors.{kept_lists}
+use Rattle.wait_sparsify.specs.Survivors.{nexts, kept_lists}
 use Rattle.wait_sparsify.proofs.Numbering.{length-owners, length-places}
 use Rattle.wait_sparsify.proofs.Bounds.{cross_within, swept_long, swept_at, kept_inside, has_waits}
 use Rattle.wait_sparsify.proofs.Counting.{counts_cross}
@@ -27,7 +27,7 @@ attach-requires-clause-owners c =
     let seats = c.in_ok-seats.seats in
     let s = setting graph lists c.as_slice-lists.result.now cross c.as_slice-lists.ensures c.requires c.in_ok-cross.ensures.graph c.in_ok-cross.ensures.cross in
     let eo : seats.owners.items ≡ owners_from 0 lists = c.in_ok-seats.ensures.owners ∙ ap (owners_from 0) c.as_slice-lists.ensures in
-    let ek : c.in_ok-kept.kept ≡ kept_lists cross seats.owners.items 0 (replicate (length cross) 0) (replicate (length cross) 0) cross = c.in_ok-kept.ensures ∙ ap (λ (o : List ℕ). kept_lists cross o 0 (replicate (length cross) 0) (replicate (length cross) 0) cross) c.as_slice-2.ensures.value in
+    let ek : c.in_ok-kept.kept ≡ kept_lists (nexts cross) seats.owners.items 0 (replicate (length cross) 0) (replicate (length cross) 0) cross = c.in_ok-kept.ensures ∙ ap (λ (o : List ℕ). kept_lists (nexts cross) o 0 (replicate (length cross) 0) (replicate (length cross) 0) cross) c.as_slice-2.ensures.value in
     let kept = c.in_ok-kept.kept in
     kept_inside graph lists cross s kept (swept_long graph lists cross s seats.owners.items kept eo ek) (swept_at graph lists cross s seats.owners.items kept eo ek) seats.owners.items eo
 
@@ -44,7 +44,7 @@ returns c =
     let s = setting graph lists c.as_slice-lists.result.now cross c.as_slice-lists.ensures c.requires c.in_ok-cross.ensures.graph c.in_ok-cross.ensures.cross in
     let eo : seats.owners.items ≡ owners_from 0 lists = c.in_ok-seats.ensures.owners ∙ ap (owners_from 0) c.as_slice-lists.ensures in
     let ep : seats.places.items ≡ places_from lists = c.in_ok-seats.ensures.places ∙ ap places_from c.as_slice-lists.ensures in
-    let ek : c.in_ok-kept.kept ≡ kept_lists cross seats.owners.items 0 (replicate (length cross) 0) (replicate (length cross) 0) cross = c.in_ok-kept.ensures ∙ ap (λ (o : List ℕ). kept_lists cross o 0 (replicate (length cross) 0) (replicate (length cross) 0) cross) c.as_slice-2.ensures.value in
+    let ek : c.in_ok-kept.kept ≡ kept_lists (nexts cross) seats.owners.items 0 (replicate (length cross) 0) (replicate (length cross) 0) cross = c.in_ok-kept.ensures ∙ ap (λ (o : List ℕ). kept_lists (nexts cross) o 0 (replicate (length cross) 0) (replicate (length cross) 0) cross) c.as_slice-2.ensures.value in
     let lasting = c.in_ok-kept.kept in
     let kept = has_waits graph lists cross s lasting (swept_long graph lists cross s seats.owners.items lasting eo ek) (swept_at graph lists cross s seats.owners.items lasting eo ek) seats.owners.items seats.places.items c.as_slice-lists.result.now c.in_ok-workers.workers eo ep c.as_slice-lists.ensures c.in_ok-workers.ensures in
     record {
