@@ -3,6 +3,7 @@ pub mod Counted
 pub mod Edges
 pub mod Grouped
 pub mod Planning
+pub mod Sets
 pub mod Sharing
 pub mod Sorted
 pub mod Unique
