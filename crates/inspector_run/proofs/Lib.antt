@@ -10,3 +10,5 @@ pub mod Planned
 pub mod Ascend
 pub mod Along
 pub mod Arms
+pub mod Gathered
+pub mod Parts

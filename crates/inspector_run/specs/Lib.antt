@@ -5,3 +5,4 @@ pub mod Ticks
 pub mod Ready
 pub mod Inverses
 pub mod IsPlan
+pub mod Pieces

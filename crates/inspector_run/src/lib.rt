@@ -4,13 +4,16 @@
 mod counted;
 mod inverse;
 mod invert;
+mod joined;
 pub mod laws;
 mod locate;
 pub mod pairs;
+mod pieces;
 pub mod plan;
 mod run;
 mod shared;
 mod sorted;
+pub mod split;
 mod tried;
 mod tries;
 mod value;

@@ -141,10 +141,10 @@ fn run_where<L: Ledger>(
     }
 }
 
-// Runs operations for each value of a variable.
+/// Runs operations for each value of a variable.
 #[cycle(run)]
 #[tactic(none)]
-fn run_along<L: Ledger>(
+pub fn run_along<L: Ledger>(
     var: VarId,
     tries: Tries<'_>,
     after: &[InspOp],
