@@ -1,10 +1,9 @@
 -- By the kind of a variable its value is tried, where the constraints that are known hold.
-use Rattle.std.proofs.Common.{◌≡◌, ◌⊎◌, inl, inr, ℕ, ◌+◌, ◌-◌, ◌<◌, ℤ, pos, negsuc, ◌+ℤ◌, ◌-ℤ◌, ◌≤ℤ◌, Bool, true, false, ◌&&◌, int_le, Option, Some, None, List, [], ◌∷◌, ◌++◌, length, slice_get, refl, sym, ap, ◌∙◌, subst, arith, rules}
-use Rattle.std.specs.Prelude.{if◌then◌else◌}
+use Rattle.std.proofs.Common.{◌≡◌, ◌⊎◌, inl, inr, ℕ, ◌+◌, ◌-◌, ◌<◌, ℤ, pos, negsuc, ◌+ℤ◌, ◌-ℤ◌, ◌≤ℤ◌, true, false, ◌&&◌, int_le, Option, Some, None, List, [], ◌∷◌, ◌++◌, length, slice_get, refl, sym, ap, ◌∙◌, subst, arith, rules}
 use Rattle.std.specs.Int.Signed.{◌<ℤ◌}
 use Rattle.std.specs.Ordering.{int_eq}
 use Rattle.std.specs.Option.{option_map_or}
-use Rattle.std.specs.List.{Contains, flat_map, list_all, range_with_len}
+use Rattle.std.specs.List.{Contains, flat_map, range_with_len}
 use Rattle.std.proofs.lemmas.Int.{ints}
 use Rattle.std.proofs.lemmas.Bool.{false≢true}
 use Rattle.std.proofs.lemmas.Bool.Decides.{Decides-int_eq}
@@ -16,12 +15,11 @@ use Rattle.loop_core.specs.declared.nest.VarId.{VarId}
 use Rattle.loop_core.specs.declared.nest.Term.{Term}
 use Rattle.loop_core.specs.declared.nest.Atom.{Atom, out-Atom, roll-Atom, roll-out-Atom}
 use Rattle.loop_core.specs.declared.nest.Atom as ATOM
-use Rattle.loop_core.specs.declared.nest.Atom.TheVariants.{Zero, N, Var, At, rolls-At}
+use Rattle.loop_core.specs.declared.nest.Atom.TheVariants.{Zero, Var, At}
 use Rattle.loop_core.specs.declared.nest.Atom.TheOpen.{Atom-F}
 use Rattle.loop_core.specs.Lists.{Lists, list_of, word_at}
 use Rattle.loop_core.specs.Binding.{Binding, value_in}
 use Rattle.loop_core.specs.Terms.{term_value, atom_value}
-use Rattle.loop_core.specs.Shape.{term_vars}
 use Rattle.loop_core.specs.Sizes.{sizes, size_length, declared_length}
 use Rattle.uf_constraints.specs.declared.system.Diff.{Diff}
 use Rattle.uf_constraints.specs.Same.{is_listed}
@@ -29,23 +27,21 @@ use Rattle.uf_constraints.specs.Truth.{Holds}
 use Rattle.uf_constraints.specs.Universe.{plain, next}
 use Rattle.index_props.specs.Entries.{size_term, length_term}
 use Rattle.index_props.specs.Rules.{at_most, less}
-use Rattle.dep_extract.proofs.Members.{both, none, here, from_flat, kept_is}
+use Rattle.dep_extract.proofs.Members.{both, here, from_flat}
 use Rattle.dep_extract.proofs.Holding.{up_to_means, under_means, zero_is}
 use Rattle.inspector_run.specs.declared.plan.InspOp.TheVariants.{Let, Find, Locate}
 use Rattle.inspector_run.specs.Tries.{word, places_of, place_up_to, moved}
 use Rattle.inspector_run.specs.Ready.{IsAscending}
-use Rattle.inspector_run.specs.IsPlan.{is_among}
 use Rattle.inspector_gen.specs.declared.kind.Kind.{Kind}
-use Rattle.inspector_gen.specs.declared.kind.Kind.TheVariants.{Given, Found, Located, Looped}
-use Rattle.inspector_gen.specs.declared.kind.Way.{Way}
+use Rattle.inspector_gen.specs.declared.kind.Kind.TheVariants.{Looped}
 use Rattle.inspector_gen.specs.declared.kind.Way.TheVariants as ways
 use Rattle.inspector_gen.specs.declared.unknown.Unknown.{Unknown}
-use Rattle.inspector_gen.specs.Known.{Bounds, is_at_most, knows, constant, constant_between}
-use Rattle.inspector_gen.specs.Kinds.{Facts, is_fixed, term_of, place, entry_at, if_below, constants, kind_with, kinds_by, kinds_if_fixed, kinds_along, is_variable, is_place, is_rising, may_find, may_locate, found_in, located_in, found_at, located_at, candidates, first_of, or_looped, kind_of}
+use Rattle.inspector_gen.specs.Known.{is_at_most, knows, constant_between}
+use Rattle.inspector_gen.specs.Kinds.{Facts, is_fixed, term_of, place, entry_at, kinds_along, is_variable, is_place, is_rising, may_find, found_at, located_at, candidates, kind_of}
 use Rattle.inspector_gen.specs.Plans.{operation, loop_of}
-use Rattle.inspector_gen.proofs.Lists.{in_map, from_map, in_filter, in_range, greatest_is}
-use Rattle.inspector_gen.proofs.Locality.{term_vars_are}
+use Rattle.inspector_gen.proofs.Lists.{in_map, in_filter, in_range, greatest_is}
 use Rattle.inspector_gen.proofs.Along.{TriesIt, variable_is}
+use Rattle.inspector_gen.proofs.Candidates.{pick_or, constant_is, below_is, along_is, uses_fixed, found_from, located_from}
 
 le_means : (x y : ℤ) → int_le x y ≡ true → x ≤ℤ y
 le_means x y h = grind (arith, ints)
@@ -56,27 +52,9 @@ le_true x y h = grind (arith, ints)
 le_false : (x y : ℤ) → y <ℤ x → int_le x y ≡ false
 le_false x y h = grind (arith, ints)
 
-under : {X : Type 0} (b : Bool) (xs : List X) (x : X) → Contains (if b then xs else []) x → (b ≡ true) × Contains xs x
-under true xs x h = (refl, h)
-under false xs x h = absurd (none x h)
-
 known_is : (o : Option ℤ) (c : ℤ) → is_at_most c o ≡ true → (least : ℤ) × (o ≡ Some least) × (least ≤ℤ c)
 known_is None c h = absurd (false≢true h)
 known_is (Some l) c h = (l, refl, le_means l c h)
-
-constant_is : (o p : Option ℤ) (c : ℤ) → Contains (constant o p) c → (o ≡ Some c) × ((d : ℤ) × (p ≡ Some d) × ((c +ℤ d) ≡ pos 0))
-constant_is (Some x) (Some y) c h =
-    let t = kept_is (int_eq (x +ℤ y) (pos 0)) x c h in
-    (ap Some t.1, (y, refl, subst (λ z. (z +ℤ y) ≡ pos 0) t.1 ((Decides-int_eq (x +ℤ y) (pos 0)).0 t.0)))
-constant_is (Some x) None c h = absurd (none c h)
-constant_is None (Some y) c h = absurd (none c h)
-constant_is None None c h = absurd (none c h)
-
-below_is : (bounds : Bounds) (x after : Atom) (o : Option ℤ) (c : ℤ) → Contains (if_below bounds x after o) c → (o ≡ Some c) × (knows bounds (record { a = x; b = after; c = negsuc 0 -ℤ c }) ≡ true)
-below_is bounds x after None c h = absurd (none c h)
-below_is bounds x after (Some e) c h =
-    let t = kept_is (knows bounds (record { a = x; b = after; c = negsuc 0 -ℤ e })) e c h in
-    (ap Some t.1, subst (λ (z : ℤ). knows bounds (record { a = x; b = after; c = negsuc 0 -ℤ z }) ≡ true) t.1 t.0)
 
 -- The values of terms.
 
@@ -118,13 +96,6 @@ number : (z : ℤ) → pos 0 ≤ℤ z → (k : ℕ) × (z ≡ pos k)
 number (pos k) h = (k, refl)
 number (negsuc k) h = absurd (omega (arith, ints, h))
 
-atom_is : (y : Atom) (array : ArrayId) (t : Term) → out-Atom y ≡ Atom-F.At array t → y ≡ At array t
-atom_is y array t is = sym (roll-out-Atom y) ∙ ap roll-Atom is ∙ rolls-At array t
-
-pick : (P : Kind → Type 0) (ks : List Kind) → ((k : Kind) → Contains ks k → P k) → P Looped → P (or_looped (first_of ks))
-pick P [] each looped = looped
-pick P (k ∷ ks) each looped = each k (here k ks)
-
 module _ (a : Lists) (e : List Binding) (f : Facts)
     (known : (x y : Atom) (c : ℤ) → f.bounds x y ≡ Some c → (atom_value a e x -ℤ atom_value a e y) ≤ℤ c)
     (long : (array : ArrayId) (t : Term) → Contains f.atoms (At array t) → length (list_of a.lists array) ≡ declared_length f.decls a.n a.nnz array)
@@ -143,17 +114,6 @@ module _ (a : Lists) (e : List Binding) (f : Facts)
       let down = known y x t.1.0 t.1.1 in
       let sum = t.1.2 in
       omega (arith, ints, up, down, sum)
-
-  along_is : (earlier : List VarId) (v : VarId) (way : Way) (k : Kind) → Contains (kinds_along f earlier v way) k
-      → (x : Atom) × (c : ℤ) × (is_fixed earlier x ≡ true) × Contains (constants f.bounds v way x) c × (kind_with way (term_of x c) ≡ k)
-  along_is earlier v way k h =
-      let t = from_flat (kinds_if_fixed f earlier v way) f.atoms k h in
-      let u = under (is_fixed earlier t.0) (kinds_by f v way t.0) k t.2 in
-      let m = from_map (λ c. kind_with way (term_of t.0 c)) (constants f.bounds v way t.0) k u.1 in
-      (t.0, m.0, u.0, m.1, m.2)
-
-  uses_fixed : (earlier : List VarId) (x : Atom) (c : ℤ) → is_fixed earlier x ≡ true → list_all (is_among earlier) (term_vars (term_of x c)) ≡ true
-  uses_fixed earlier x c h = ap (list_all (is_among earlier)) (term_vars_are (term_of x c)) ∙ h
 
   -- v + plus is a place
   abbrev IsAt : VarId → ArrayId → ℤ → Type 0
@@ -189,23 +149,13 @@ module _ (a : Lists) (e : List Binding) (f : Facts)
 
     given_tries : (k : Kind) → Contains (kinds_along f earlier v ways.Given) k → Tries k
     given_tries k h =
-        let t = along_is earlier v ways.Given k h in
+        let t = along_is f earlier v ways.Given k h in
         let term : Term = term_of t.0 t.1 in
         let same : term_value a e term ≡ value_in e v = split a e term ∙ sym (equal_by (Var v) t.0 t.1 t.3) ∙ var_value a e v in
         let it : TriesIt a e earlier v (Let v term) = (uses_fixed earlier t.0 t.1 t.2, subst (Contains (term_value a e term ∷ [])) same (here (term_value a e term) [])) in
         subst Tries t.4 it
 
     -- found
-
-    found_from : (k : Kind) (y : Atom) (l : Atom-F Atom Term) → out-Atom y ≡ l → Contains (found_in f earlier v l) k
-        → (array : ArrayId) × (t : Term) × (y ≡ At array t) × (may_find f v array t ≡ true) × Contains (kinds_along f earlier v (ways.Found array t.plus)) k
-    found_from k y (Atom-F.At array t) is h =
-        let m = under (may_find f v array t) (kinds_along f earlier v (ways.Found array t.plus)) k h in
-        (array, t, atom_is y array t is, m.0, m.1)
-    found_from k y Atom-F.Zero is h = absurd (none k h)
-    found_from k y Atom-F.N is h = absurd (none k h)
-    found_from k y Atom-F.Nnz is h = absurd (none k h)
-    found_from k y (Atom-F.Var w) is h = absurd (none k h)
 
     find_tries : (array : ArrayId) (plus : ℤ) (x : Atom) (c : ℤ) → is_fixed earlier x ≡ true → IsAt v array plus
         → atom_value a e (entry_at v array plus) ≡ (atom_value a e x +ℤ c) → TriesIt a e earlier v (Find v array plus (term_of x c))
@@ -220,23 +170,13 @@ module _ (a : Lists) (e : List Binding) (f : Facts)
     found_tries : (k : Kind) → Contains (flat_map (found_at f earlier v) f.atoms) k → Tries k
     found_tries k h =
         let m = from_flat (found_at f earlier v) f.atoms k h in
-        let n = found_from k m.0 (out-Atom m.0) refl m.2 in
-        let t = along_is earlier v (ways.Found n.0 n.1.plus) k n.4 in
+        let n = found_from f earlier v k m.0 (out-Atom m.0) refl m.2 in
+        let t = along_is f earlier v (ways.Found n.0 n.1.plus) k n.4 in
         let may = both (is_variable v (out-Atom n.1.atom)) (is_place f n.0 n.1) n.3 in
         let at = is_at v n.0 n.1 (long n.0 n.1 (subst (Contains f.atoms) n.2 m.1)) (variable_value a e v n.1.atom may.0) may.1 in
         subst Tries t.4 (find_tries n.0 n.1.plus t.0 t.1 t.2 at (equal_by (entry_at v n.0 n.1.plus) t.0 t.1 t.3))
 
     -- located
-
-    located_from : (k : Kind) (y : Atom) (l : Atom-F Atom Term) → out-Atom y ≡ l → Contains (located_in f earlier v l) k
-        → (array : ArrayId) × (t : Term) × (y ≡ At array t) × (may_locate f v array t ≡ true) × Contains (kinds_along f earlier v (ways.Located array t.plus)) k
-    located_from k y (Atom-F.At array t) is h =
-        let m = under (may_locate f v array t) (kinds_along f earlier v (ways.Located array t.plus)) k h in
-        (array, t, atom_is y array t is, m.0, m.1)
-    located_from k y Atom-F.Zero is h = absurd (none k h)
-    located_from k y Atom-F.N is h = absurd (none k h)
-    located_from k y Atom-F.Nnz is h = absurd (none k h)
-    located_from k y (Atom-F.Var w) is h = absurd (none k h)
 
     locate_tries : (array : ArrayId) (plus : ℤ) (x : Atom) (c : ℤ) → is_fixed earlier x ≡ true → IsAt v array plus → IsAt v array (plus +ℤ pos 1)
         → IsAscending (list_of a.lists array)
@@ -264,10 +204,10 @@ module _ (a : Lists) (e : List Binding) (f : Facts)
     located_tries : (k : Kind) → Contains (flat_map (located_at f earlier v) f.atoms) k → Tries k
     located_tries k h =
         let m = from_flat (located_at f earlier v) f.atoms k h in
-        let n = located_from k m.0 (out-Atom m.0) refl m.2 in
+        let n = located_from f earlier v k m.0 (out-Atom m.0) refl m.2 in
         let array : ArrayId = n.0 in
         let t : Term = n.1 in
-        let w = along_is earlier v (ways.Located array t.plus) k n.4 in
+        let w = along_is f earlier v (ways.Located array t.plus) k n.4 in
         let may = both (may_find f v array t) (is_rising f.props array && (is_listed f.atoms (At array (next t)) && is_place f array (next t))) n.3 in
         let find = both (is_variable v (out-Atom t.atom)) (is_place f array t) may.0 in
         let rest = both (is_rising f.props array) (is_listed f.atoms (At array (next t)) && is_place f array (next t)) may.1 in
@@ -293,5 +233,5 @@ module _ (a : Lists) (e : List Binding) (f : Facts)
         by (inl c) = given_tries k c
         by (inr c) = rest (Contains-append_cases (flat_map (found_at f earlier v) f.atoms) (flat_map (located_at f earlier v) f.atoms) k c)
 
-    pub kind_tries : TriesIt a e earlier u.var (loop_of earlier u.var u.span) → TriesIt a e earlier u.var (operation earlier u (kind_of f earlier u.var))
-    kind_tries looped = pick Tries (candidates f earlier v) each_tries looped
+    pub kind_tries : (kind_of f earlier u.var ≡ Looped → TriesIt a e earlier u.var (loop_of earlier u.var u.span)) → TriesIt a e earlier u.var (operation earlier u (kind_of f earlier u.var))
+    kind_tries looped = pick_or Tries (candidates f earlier v) each_tries looped

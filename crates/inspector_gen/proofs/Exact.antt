@@ -1,8 +1,8 @@
--- The plan of a relation gives its pairs.
-use Rattle.std.proofs.Common.{◌≡◌, ◌↔◌, ◌⊎◌, inl, inr, ℕ, ℤ, pos, ◌+ℤ◌, ◌≤ℤ◌, Bool, true, false, ◌||◌, List, [], ◌∷◌, ◌++◌, refl, sym, ap, ◌∙◌, subst, arith, rules}
-use Rattle.std.specs.Prelude.{◌==◌, if◌then◌else◌, slice_index_or}
+-- What a relation between two sites asks of an order of its unknowns.
+use Rattle.std.proofs.Common.{◌≡◌, ◌↔◌, ◌⊎◌, inl, inr, ℕ, ℤ, pos, ◌+ℤ◌, ◌≤ℤ◌, true, false, ◌||◌, List, [], ◌∷◌, ◌++◌, refl, sym, ap, ◌∙◌, subst, arith, rules}
+use Rattle.std.specs.Prelude.{◌==◌, slice_index_or}
 use Rattle.std.specs.Int.Signed.{◌<ℤ◌}
-use Rattle.std.specs.List.{All, Contains, flat_map, list_all}
+use Rattle.std.specs.List.{All, Contains, list_all}
 use Rattle.std.proofs.lemmas.Int.{ints}
 use Rattle.std.proofs.lemmas.Bool.{eqb-true, cases_eq, false≢true}
 use Rattle.std.proofs.lemmas.Bool.Decides.{nat_tests}
@@ -21,30 +21,24 @@ use Rattle.loop_core.specs.declared.nest.VarId.{VarId}
 use Rattle.loop_core.specs.declared.nest.Term.{Term}
 use Rattle.loop_core.specs.declared.nest.Atom.{Atom}
 use Rattle.loop_core.specs.declared.nest.Atom as ATOM
-use Rattle.loop_core.specs.declared.nest.Atom.TheVariants.{Zero, N, Nnz, Var, At}
+use Rattle.loop_core.specs.declared.nest.Atom.TheVariants.{Zero, N, Nnz, Var}
 use Rattle.loop_core.specs.Lists.{Lists, list_of}
 use Rattle.loop_core.specs.Binding.{Binding, value_in, same_side}
 use Rattle.loop_core.specs.Terms.{term_value}
 use Rattle.loop_core.specs.Instances.{natural}
 use Rattle.loop_core.specs.Shape.{term_vars, term_arrays}
-use Rattle.loop_core.specs.Sizes.{is_index, declared_length}
+use Rattle.loop_core.specs.Sizes.{is_index}
 use Rattle.loop_core.specs.IsNest.{IsNest}
 use Rattle.uf_constraints.specs.declared.system.Diff.{Diff}
-use Rattle.uf_constraints.specs.declared.system.Relation.{Relation}
 use Rattle.uf_constraints.specs.declared.reach.Around.{Around}
 use Rattle.uf_constraints.specs.declared.reach.Around.TheVariants.{Loop as Repeated, Guard}
 use Rattle.uf_constraints.specs.declared.reach.Site.{Site}
 use Rattle.uf_constraints.specs.Bases.{at_most, less, on, variable as term_at, said_by, said_by_all, relation_base}
-use Rattle.uf_constraints.specs.Pairs.{Pairs}
-use Rattle.uf_constraints.specs.Relations.{sites, are_related, relation, related, relations}
+use Rattle.uf_constraints.specs.Relations.{sites, relation}
 use Rattle.uf_constraints.specs.Truth.{Holds, AllHold}
 use Rattle.uf_constraints.specs.Universe.{plain, next}
-use Rattle.index_props.specs.Derivable.{Derivable}
 use Rattle.index_props.specs.Meanings.{Means, Passes, StrictList}
-use Rattle.index_props.specs.Rules.{instances_of}
-use Rattle.index_props.specs.Sound.{AllNameIndexes, IndexLengths}
-use Rattle.cert_check.specs.Answer.{IsTrueFor}
-use Rattle.dep_extract.proofs.Members.{and_true, from_flat, kept_is}
+use Rattle.dep_extract.proofs.Members.{and_true}
 use Rattle.dep_extract.proofs.Holding.{all_parts, up_to_means, under_means, zero_is, rows_are, variable_is}
 use Rattle.inspector_run.specs.declared.plan.InspOp.{InspOp}
 use Rattle.inspector_run.specs.declared.plan.InspOp.TheVariants.{Loop, Emit}
@@ -54,18 +48,18 @@ use Rattle.inspector_run.specs.IsPlan.{is_among}
 use Rattle.inspector_gen.specs.declared.kind.Kind.{Kind}
 use Rattle.inspector_gen.specs.declared.unknown.Unknown.{Unknown}
 use Rattle.inspector_gen.specs.declared.unknown.Span.TheVariants.{Rows, Between}
-use Rattle.inspector_gen.specs.Kinds.{Facts, is_fixed, makes_rising, is_rising, kind_of}
+use Rattle.inspector_gen.specs.Kinds.{is_fixed, makes_rising, is_rising}
 use Rattle.inspector_gen.specs.Variables.{variable, first_side_first, second_side_first}
-use Rattle.inspector_gen.specs.Plans.{loop_over_rows, loop_of, steps, plan_in, is_cheaper, kinds_from, cheaper, plan_of}
-use Rattle.inspector_gen.specs.Derived.{AreDerived, rows}
+use Rattle.inspector_gen.specs.Plans.{loop_over_rows, loop_of, steps}
+use Rattle.inspector_gen.specs.Derived.{rows}
 use Rattle.inspector_gen.proofs.Lists.{known_or, in_map, from_map, natural_of, between_has}
 use Rattle.inspector_gen.proofs.Locality.{term_vars_are}
 use Rattle.inspector_gen.proofs.Along.{Along, IsFresh, CanTest, HasBoth, TriesIt, IsTried, may_test_from, pairs_come, pairs_met}
-use Rattle.inspector_gen.proofs.Chosen.{split, var_value, kind_tries}
+use Rattle.inspector_gen.proofs.Chosen.{split, var_value}
 use Rattle.inspector_gen.proofs.Scoped.{Fits, AreScoped, lines_in, lines_stay, is_line, line_push, or_left, or_last, or_cases, all_by}
 use Rattle.inspector_gen.proofs.Sided.{arrays_of, term_arrays_are, vars_on, arrays_on, there}
-use Rattle.inspector_gen.proofs.Indexed.{DiffIndexed, entries_indexed}
-use Rattle.inspector_gen.proofs.Based.{RoundIs, base_is, low_is, apart_is, high_is, first_is, second_is}
+use Rattle.inspector_gen.proofs.Indexed.{DiffIndexed}
+use Rattle.inspector_gen.proofs.Based.{RoundIs, base_is, low_is, apart_is, high_is}
 use Rattle.inspector_gen.proofs.Walks.{AreOn, row_of, side_of, order_along}
 use Rattle.inspector_gen.proofs.Sites.{site_fits, round_is}
 
@@ -128,7 +122,7 @@ module _ (a : Lists) (p : ArrayId) where
   one_rising (Diagonal d f q) means h = absurd (false≢true h)
   one_rising (Before f g) means h = absurd (false≢true h)
 
-  rising_list : (props : List PropDecl) → Passes props a → is_rising props p ≡ true → IsAscending (list_of a.lists p)
+  pub rising_list : (props : List PropDecl) → Passes props a → is_rising props p ≡ true → IsAscending (list_of a.lists p)
   rising_list [] passes h = absurd (false≢true h)
   rising_list (d ∷ props) passes h = by (or_cases (makes_rising p d.kind) (is_rising props p) h) (rising_list props (All-tail (λ (q : PropDecl). Means a q.kind) d props passes))
     where
@@ -138,7 +132,7 @@ module _ (a : Lists) (p : ArrayId) where
 
 -- Terms whose variables are fixed.
 
-abbrev TermFixed : List VarId → Term → Type 0
+abbrev pub TermFixed : List VarId → Term → Type 0
 TermFixed earlier t = list_all (is_among earlier) (term_vars t) ≡ true
 
 no_vars : (earlier : List VarId) (t : Term) → term_vars t ≡ [] → TermFixed earlier t
@@ -147,22 +141,22 @@ no_vars earlier t none = ap (list_all (is_among earlier)) none
 one_var : (earlier : List VarId) (t : Term) (v : VarId) → term_vars t ≡ v ∷ [] → is_among earlier v ≡ true → TermFixed earlier t
 one_var earlier t v one h = ap (list_all (is_among earlier)) one ∙ and_true (is_among earlier v) true h refl
 
-zero_fixed : (earlier : List VarId) → TermFixed earlier (plain Zero)
+pub zero_fixed : (earlier : List VarId) → TermFixed earlier (plain Zero)
 zero_fixed earlier = no_vars earlier (plain Zero) (search (rules, ATOM.TheFolds.the_lemmas))
 
-rows_fixed : (earlier : List VarId) → TermFixed earlier (plain N)
+pub rows_fixed : (earlier : List VarId) → TermFixed earlier (plain N)
 rows_fixed earlier = no_vars earlier (plain N) (search (rules, ATOM.TheFolds.the_lemmas))
 
 stored_fixed : (earlier : List VarId) → TermFixed earlier (plain Nnz)
 stored_fixed earlier = no_vars earlier (plain Nnz) (search (rules, ATOM.TheFolds.the_lemmas))
 
-var_fixed : (earlier : List VarId) (v : VarId) → is_among earlier v ≡ true → TermFixed earlier (plain (Var v))
+pub var_fixed : (earlier : List VarId) (v : VarId) → is_among earlier v ≡ true → TermFixed earlier (plain (Var v))
 var_fixed earlier v h = one_var earlier (plain (Var v)) v (search (rules, ATOM.TheFolds.the_lemmas)) h
 
-next_fixed : (earlier : List VarId) (v : VarId) → is_among earlier v ≡ true → TermFixed earlier (next (plain (Var v)))
+pub next_fixed : (earlier : List VarId) (v : VarId) → is_among earlier v ≡ true → TermFixed earlier (next (plain (Var v)))
 next_fixed earlier v h = one_var earlier (next (plain (Var v))) v (search (rules, ATOM.TheFolds.the_lemmas)) h
 
-on_fixed : (decls : List Decl) (side : Side) (earlier : List VarId) (ls : List ℕ) (t : Term) → ((k : ℕ) → is_line ls k ≡ true → is_among earlier (variable k side) ≡ true) → Fits decls ls t → TermFixed earlier (on side t)
+pub on_fixed : (decls : List Decl) (side : Side) (earlier : List VarId) (ls : List ℕ) (t : Term) → ((k : ℕ) → is_line ls k ≡ true → is_among earlier (variable k side) ≡ true) → Fits decls ls t → TermFixed earlier (on side t)
 on_fixed decls side earlier ls t cover fits =
     ap (list_all (is_among earlier)) (vars_on side t)
     ∙ list_all-map (is_among earlier) (there side) (term_vars t)
@@ -200,10 +194,10 @@ module _ (nest : Nest) (is_nest : IsNest nest) (s t : Site) (in_s : Contains (si
   abbrev j_var : VarId
   j_var = variable outer Second
 
-  abbrev lines_s : List ℕ
+  abbrev pub lines_s : List ℕ
   lines_s = lines_in (outer ∷ []) s.around
 
-  abbrev lines_t : List ℕ
+  abbrev pub lines_t : List ℕ
   lines_t = lines_in (outer ∷ []) t.around
 
   pub fits_s : AreScoped nest.decls (outer ∷ []) s.around × Fits nest.decls lines_s s.at
@@ -219,7 +213,7 @@ module _ (nest : Nest) (is_nest : IsNest nest) (s t : Site) (in_s : Contains (si
   outer_in xs = lines_stay (outer ∷ []) xs outer outer_itself
 
   -- the constraints name index arrays alone
-  indexed : All (DiffIndexed nest.decls) base
+  pub indexed : All (DiffIndexed nest.decls) base
   indexed =
       let P : Term → Type 0 = λ u. list_all (is_index nest.decls) (term_arrays u) ≡ true in
       let none : (u : Term) → term_arrays u ≡ [] → P u = λ u e. ap (list_all (is_index nest.decls)) e in
@@ -256,13 +250,13 @@ module _ (nest : Nest) (is_nest : IsNest nest) (s t : Site) (in_s : Contains (si
   abbrev pub first_order : List Unknown
   first_order = side_of outer First s.around ++ side_of outer Second t.around
 
-  abbrev second_order : List Unknown
+  abbrev pub second_order : List Unknown
   second_order = side_of outer Second t.around ++ side_of outer First s.around
 
-  first_is_that : first_side_first nest (relation nest s t) ≡ first_order
+  pub first_is_that : first_side_first nest (relation nest s t) ≡ first_order
   first_is_that = λ i. side_of outer First (round_is nest is_nest s in_s i) ++ side_of outer Second (round_is nest is_nest t in_t i)
 
-  second_is_that : second_side_first nest (relation nest s t) ≡ second_order
+  pub second_is_that : second_side_first nest (relation nest s t) ≡ second_order
   second_is_that = λ i. side_of outer Second (round_is nest is_nest t in_t i) ++ side_of outer First (round_is nest is_nest s in_s i)
 
   -- each unknown stands once
@@ -286,10 +280,13 @@ module _ (nest : Nest) (is_nest : IsNest nest) (s t : Site) (in_s : Contains (si
       order_along IsFresh (CanTest base) Whatever nest.decls outer fresh_row fresh_step First Second refl refl refl refl s.around t.around fits_s.0 fits_t.0 (anything First s.around) (anything Second t.around)
       (λ after on_s on_t. can_test after on_s on_t)
 
-  fresh_second : Along IsFresh (CanTest base) [] second_order
+  pub fresh_second : Along IsFresh (CanTest base) [] second_order
   fresh_second =
       order_along IsFresh (CanTest base) Whatever nest.decls outer fresh_row fresh_step Second First refl refl refl refl t.around s.around fits_t.0 fits_s.0 (anything Second t.around) (anything First s.around)
       (λ after on_t on_s. can_test after on_s on_t)
+
+  pub has_both : (after : List VarId) → AreOn First after lines_s → AreOn Second after lines_t → HasBoth i_var j_var after
+  has_both after on_s on_t = (on_s outer ∙ outer_in s.around, on_t outer ∙ outer_in t.around)
 
   -- Values that make the base true.
 
@@ -374,89 +371,3 @@ module _ (nest : Nest) (is_nest : IsNest nest) (s t : Site) (in_s : Contains (si
         between_tries earlier (variable line side) (on side lo) (on side hi)
         (on_fixed nest.decls side earlier ls lo (λ k h. own k ∙ h) fits_lo) (on_fixed nest.decls side earlier ls hi (λ k h. own k ∙ h) fits_hi)
         (omega (arith, ints, p, v)) (omega (arith, ints, q, v))
-
-    pub has_both : (after : List VarId) → AreOn First after lines_s → AreOn Second after lines_t → HasBoth i_var j_var after
-    has_both after on_s on_t = (on_s outer ∙ outer_in s.around, on_t outer ∙ outer_in t.around)
-
-    -- by any kinds by which the value of a looped unknown is tried, and with it that of each
-    module _ (kind : List VarId → VarId → Kind)
-        (by_kind : (earlier : List VarId) (u : Unknown) → TriesIt a e earlier u.var (loop_of earlier u.var u.span) → IsTried a e kind earlier u) where
-      tried_row : (side : Side) (earlier : List VarId) → same_side side Own ≡ false → AreOn side earlier [] → IsTried a e kind earlier (row_of outer side)
-      tried_row side earlier moves own = by_kind earlier (row_of outer side) (row_tries side earlier moves)
-
-      tried_step : (side : Side) (earlier : List VarId) (ls : List ℕ) (line : ℕ) (lo hi : Term) → AreOn side earlier ls → Fits nest.decls ls lo → Fits nest.decls ls hi
-          → is_line ls line ≡ false → IsSaid side (Repeated line lo hi) → IsTried a e kind earlier (record { var = variable line side; span = Between (on side lo) (on side hi) })
-      tried_step side earlier ls line lo hi own fits_lo fits_hi new said =
-          by_kind earlier (record { var = variable line side; span = Between (on side lo) (on side hi) }) (loop_tries side earlier ls line lo hi own fits_lo fits_hi said)
-
-      pub tried_first : Along (IsTried a e kind) (HasBoth i_var j_var) [] first_order
-      tried_first =
-          order_along (IsTried a e kind) (HasBoth i_var j_var) IsSaid nest.decls outer tried_row tried_step First Second refl refl refl refl s.around t.around fits_s.0 fits_t.0
-          (all_said First s.around (first_is (Holds a e) nest s t hold)) (all_said Second t.around (second_is (Holds a e) nest s t hold))
-          (λ after on_s on_t. has_both after on_s on_t)
-
-      pub tried_second : Along (IsTried a e kind) (HasBoth i_var j_var) [] second_order
-      tried_second =
-          order_along (IsTried a e kind) (HasBoth i_var j_var) IsSaid nest.decls outer tried_row tried_step Second First refl refl refl refl t.around s.around fits_t.0 fits_s.0
-          (all_said Second t.around (second_is (Holds a e) nest s t hold)) (all_said First s.around (first_is (Holds a e) nest s t hold))
-          (λ after on_t on_s. has_both after on_s on_t)
-
--- The law, for any kinds by which the value of an unknown is tried where looping over it tries that.
-
-abbrev pub GivesPairs : Nest → Lists → (List VarId → VarId → Kind) → Relation → List Unknown → Type 0
-GivesPairs nest a kind r us = (i j : ℕ) → Contains (emitted a (plan_in kind nest r us)) (rows i j) ↔ Pairs nest.line r a i j
-
-module _ (nest : Nest) (is_nest : IsNest nest) (s t : Site) (in_s : Contains (sites nest) s) (in_t : Contains (sites nest) t) (a : Lists) (kind : List VarId → VarId → Kind)
-    (by_kind : (e : List Binding) → AllHold a e (relation_base nest s t) → (earlier : List VarId) (u : Unknown) → TriesIt a e earlier u.var (loop_of earlier u.var u.span) → IsTried a e kind earlier u) where
-  abbrev r : Relation
-  r = relation nest s t
-
-  positive : (e : List Binding) → AllHold a e (relation_base nest s t) → (pos 0 ≤ℤ value_in e (variable nest.line First)) × (pos 0 ≤ℤ value_in e (variable nest.line Second))
-  positive e hold = both_positive nest is_nest s t in_s in_t a e hold
-
-  pub first_gives : GivesPairs nest a kind r (first_side_first nest r)
-  first_gives =
-      subst (GivesPairs nest a kind r) (sym (first_is_that nest is_nest s t in_s in_t))
-      (emitted_are a kind (relation_base nest s t) (variable nest.line First) (variable nest.line Second) positive (first_order nest is_nest s t in_s in_t) (fresh_first nest is_nest s t in_s in_t)
-      (λ e hold. tried_first nest is_nest s t in_s in_t a e hold kind (by_kind e hold)))
-
-  pub second_gives : GivesPairs nest a kind r (second_side_first nest r)
-  second_gives =
-      subst (GivesPairs nest a kind r) (sym (second_is_that nest is_nest s t in_s in_t))
-      (emitted_are a kind (relation_base nest s t) (variable nest.line First) (variable nest.line Second) positive (second_order nest is_nest s t in_s in_t) (fresh_second nest is_nest s t in_s in_t)
-      (λ e hold. tried_second nest is_nest s t in_s in_t a e hold kind (by_kind e hold)))
-
-  either : (b : Bool) → GivesPairs nest a kind r (if b then second_side_first nest r else first_side_first nest r)
-  either true = second_gives
-  either false = first_gives
-
-  pub cheaper_gives : GivesPairs nest a kind r (cheaper kind (first_side_first nest r) (second_side_first nest r))
-  cheaper_gives = either (is_cheaper (kinds_from kind [] (second_side_first nest r)) (kinds_from kind [] (first_side_first nest r)))
-
--- And for the kinds of a relation's variables by what is known.
-
-abbrev pub DerivableIsTrue : Type 0
-DerivableIsTrue =
-    (u : List Atom) (base : List Diff) (decls : List Decl) (props : List PropDecl) (d : Diff) → AllNameIndexes decls props
-    → Derivable u base (instances_of decls props u) d.a d.b d.c → IsTrueFor decls props base d
-
-module _ (law : DerivableIsTrue) (nest : Nest) (is_nest : IsNest nest) (names : AllNameIndexes nest.decls nest.props) (f : Facts) (a : Lists)
-    (lengths : IndexLengths nest.decls a) (passes : Passes nest.props a) where
-  tries : (s t : Site) (in_s : Contains (sites nest) s) (in_t : Contains (sites nest) t) → AreDerived nest (relation nest s t) f → (e : List Binding) → AllHold a e (relation_base nest s t)
-      → (earlier : List VarId) (u : Unknown) → TriesIt a e earlier u.var (loop_of earlier u.var u.span) → IsTried a e (kind_of f) earlier u
-  tries s t in_s in_t derived e hold earlier u looped =
-      kind_tries a e f
-      (λ x y c h. law f.atoms (relation_base nest s t) nest.decls nest.props (record { a = x; b = y; c = c }) names (derived.follow x y c h) a e lengths passes hold)
-      (λ array v c.
-      let index = entries_indexed nest.decls (relation_base nest s t) nest.props names (indexed nest is_nest s t in_s in_t) array v (subst (λ (l : List Atom). Contains l (At array v)) derived.atoms c) in
-      lengths array index ∙ ap (λ (ds : List Decl). declared_length ds a.n a.nnz array) (sym derived.decls))
-      (λ p h. rising_list a p nest.props passes (subst (λ (ps : List PropDecl). is_rising ps p ≡ true) derived.props h))
-      earlier u looped
-
-  pub exact : (r : Relation) → Contains (relations nest) r → AreDerived nest r f → (i j : ℕ) → Contains (emitted a (plan_of nest f r)) (rows i j) ↔ Pairs nest.line r a i j
-  exact r c =
-      let g = from_flat (λ s. flat_map (related nest s) (sites nest)) (sites nest) r c in
-      let h = from_flat (related nest g.0) (sites nest) r g.2 in
-      let k = kept_is (are_related g.0 h.0) (relation nest g.0 h.0) r h.2 in
-      subst (λ (q : Relation). AreDerived nest q f → (i j : ℕ) → Contains (emitted a (plan_of nest f q)) (rows i j) ↔ Pairs nest.line q a i j) k.1
-      (λ derived. cheaper_gives nest is_nest g.0 h.0 g.1 h.1 a (kind_of f) (λ e hold earlier u looped. tries g.0 h.0 g.1 h.1 derived e hold earlier u looped))

@@ -4,6 +4,7 @@ pub mod Rounds
 pub mod Lists
 pub mod Locality
 pub mod Along
+pub mod Candidates
 pub mod Chosen
 pub mod Scoped
 pub mod Sided
@@ -13,3 +14,11 @@ pub mod Walks
 pub mod Sites
 pub mod Exact
 pub mod Least
+pub mod Orderings
+pub mod Formed
+pub mod Deep
+pub mod Constants
+pub mod Tables
+pub mod Good
+pub mod Taken
+pub mod Whole

@@ -1,5 +1,6 @@
 -- Lemmas on kinds and operations along an order.
-use Rattle.std.proofs.Common.{◌≡◌, ℕ, zero, suc, ◌+◌, ◌<◌, List, [], ◌∷◌, ◌++◌, length, get_or, drop, Option, Some, None, refl, sym, ap, subst, ◌∙◌, add-one, arith, append_assoc}
+use Rattle.std.proofs.Common.{◌≡◌, ℕ, zero, suc, ◌+◌, ◌<◌, List, [], ◌∷◌, ◌++◌, length, get_or, drop, slice_get, Option, Some, None, refl, sym, ap, subst, ◌∙◌, add-one, arith, append_assoc, append-nil}
+use Rattle.std.specs.List.{remove}
 use Rattle.loop_core.specs.declared.nest.VarId.{VarId}
 use Rattle.uf_constraints.specs.declared.system.Diff.{Diff}
 use Rattle.inspector_run.specs.declared.plan.InspOp.{InspOp}
@@ -7,6 +8,7 @@ use Rattle.inspector_gen.specs.declared.kind.Kind.{Kind}
 use Rattle.inspector_gen.specs.declared.unknown.Unknown.{Unknown}
 use Rattle.inspector_gen.specs.Kinds.{first_of, or_looped}
 use Rattle.inspector_gen.specs.Plans.{kinds_from, operation, steps, tests_due}
+use Rattle.inspector_gen.specs.Quick.{kinds_after, next_place, then_others, one_by_one}
 
 -- the first of two lists one after another
 
@@ -58,3 +60,39 @@ steps_step kind base us k d earlier after ops more lt is fixed made =
     (λ i. made i ++ steps kind base (fixed i) (drop (add-one k i) us))
     ∙ append_assoc ops here rest
     ∙ ap (λ l. ops ++ l) (sym front)
+
+-- the kinds of those that are left, all after the same
+
+after_front : (kind : List VarId → VarId → Kind) (taken : List VarId) (us : List Unknown) (k : ℕ) (d : Unknown) → k < length us
+    → kinds_after kind taken (drop k us) ≡ kind taken (get_or us k d).var ∷ kinds_after kind taken (drop (suc k) us)
+after_front kind taken [] k d lt = absurd (omega arith)
+after_front kind taken (u ∷ us) zero d lt = refl
+after_front kind taken (u ∷ us) (suc k) d lt = after_front kind taken us k d (omega arith)
+
+pub after_step : (kind : List VarId → VarId → Kind) (taken : List VarId) (us : List Unknown) (k : ℕ) (d : Unknown) (ks more : List Kind) (x : Kind)
+    → k < length us → d ≡ get_or us k d → x ≡ kind taken d.var → more ≡ ks ++ x ∷ []
+    → more ++ kinds_after kind taken (drop (k + 1) us) ≡ ks ++ kinds_after kind taken (drop k us)
+after_step kind taken us k d ks more x lt is here made =
+    let rest = kinds_after kind taken (drop (suc k) us) in
+    let front : kinds_after kind taken (drop k us) ≡ kind taken d.var ∷ rest =
+    subst (λ u. kinds_after kind taken (drop k us) ≡ kind taken u.var ∷ rest) (sym is) (after_front kind taken us k d lt) in
+    (λ i. made i ++ kinds_after kind taken (drop (add-one k i) us))
+    ∙ append_assoc ks (x ∷ []) rest
+    ∙ ap (λ y. ks ++ y ∷ rest) here
+    ∙ ap (λ l. ks ++ l) (sym front)
+
+-- one by one
+
+pub turn_step : (kind : List VarId → VarId → Kind) (n : ℕ) (taken after : List VarId) (left others order more : List Unknown) (place : ℕ) (next : Unknown)
+    → place ≡ next_place kind taken left → slice_get left place ≡ Some next → others ≡ remove left place → after ≡ taken ++ next.var ∷ [] → more ≡ order ++ next ∷ []
+    → more ++ one_by_one kind n after others ≡ order ++ one_by_one kind (suc n) taken left
+turn_step kind n taken after left others order more place next here is rest fixed made =
+    let tail = one_by_one kind n (taken ++ next.var ∷ []) (remove left place) in
+    (λ i. made i ++ one_by_one kind n (fixed i) (rest i))
+    ∙ append_assoc order (next ∷ []) tail
+    ∙ sym (ap (λ o. order ++ then_others (one_by_one kind n) taken o (remove left place)) is)
+    ∙ ap (λ k. order ++ then_others (one_by_one kind n) taken (slice_get left k) (remove left k)) here
+
+pub turn_end : (kind : List VarId → VarId → Kind) (taken : List VarId) (left order : List Unknown) → length left ≡ 0 → order ≡ order ++ one_by_one kind (length left) taken left
+turn_end kind taken left order none =
+    sym (append-nil order) ∙ sym (ap (λ n. order ++ one_by_one kind n taken left) none)

@@ -1,6 +1,5 @@
 -- What a table of least bounds says of constraints.
-use Rattle.std.specs.Prelude.{ℤ, pos, ◌+ℤ◌, ◌≡◌, Bool, true, false, int_le, if◌then◌else◌, Option, Some, None, List, [], ◌∷◌}
-use Rattle.std.specs.List.{list_all}
+use Rattle.std.specs.Prelude.{ℤ, pos, ◌+ℤ◌, Bool, false, int_le, if◌then◌else◌, Option, Some, None, List, [], ◌∷◌}
 use Rattle.std.specs.Ordering.{int_eq}
 use Rattle.loop_core.specs.declared.nest.Atom.{Atom}
 use Rattle.uf_constraints.specs.declared.system.Diff.{Diff}

@@ -3,4 +3,7 @@ pub mod Known
 pub mod Kinds
 pub mod Made
 pub mod Plans
+pub mod Quick
+pub mod Plain
 pub mod Derived
+pub mod Own

@@ -13,7 +13,6 @@ use Rattle.uf_constraints.specs.declared.system.Relation.{Relation}
 use Rattle.uf_constraints.specs.Bases.{on}
 use Rattle.uf_constraints.specs.Relations.{sites}
 use Rattle.inspector_gen.specs.declared.unknown.Unknown.{Unknown}
-use Rattle.inspector_gen.specs.declared.unknown.Span.{Span}
 use Rattle.inspector_gen.specs.declared.unknown.Span.TheVariants.{Rows, Between}
 
 abbrev pub variable : ℕ → Side → VarId

@@ -89,7 +89,8 @@ pub fn kinds(
     Ok(kinds)
 }
 
-fn is_looped(kind: &Kind) -> bool
+/// Whether all values are tried.
+pub fn is_looped(kind: &Kind) -> bool
     ensures { result ≡ looped kind.now }
 {
     match kind {
@@ -116,7 +117,8 @@ fn is_located(kind: &Kind) -> bool
     }
 }
 
-fn count_looped(kinds: &[Kind]) -> usize
+/// How many are looped.
+pub fn count_looped(kinds: &[Kind]) -> usize
     ensures { result ≡ count_by looped kinds.now }
 {
     kinds.iter().filter(|kind| is_looped(*kind)).count()

@@ -4,6 +4,7 @@ ghost use Rattle.inspector_gen.specs.Made.{AreFacts};
 ghost use Rattle.inspector_gen.specs.Kinds.{Facts, kind_of as kind_by};
 ghost use Rattle.inspector_gen.specs.Plans.{operation as op_of, steps as steps_of, tests_due};
 
+use crate::kind::Kind;
 use crate::operations::operation;
 use crate::order::kind_of;
 use crate::tests::push_tests;
@@ -17,7 +18,27 @@ use std::alloc::Global;
 use uf_constraints::system::Diff;
 use wave_base::types::Memory;
 
-// The operation of a variable, which is fixed from then on, and the tests that are due.
+/// Puts the operation of a variable of a kind at the end, which is fixed from then on, and the tests
+/// that are due.
+pub fn push_operation(
+    alloc: Global,
+    base: &[Diff],
+    u: &Unknown,
+    kind: Kind,
+    fixed: &mut Vec<VarId>,
+    ops: &mut Items<InspOp>,
+) -> Result<(), Memory>
+    ensures fixed { OnOk result (fixed.new.items ≡ fixed.old.items ++ u.now.var ∷ []) }
+    ensures ops { OnOk result (ops.new
+        ≡ ops.old ++ op_of fixed.old.items u.now kind ∷ tests_due base.now fixed.old.items (fixed.old.items ++ u.now.var ∷ [])) }
+{
+    let op = operation(alloc, fixed.as_slice(), u, kind)?;
+    ops.push(op)?;
+    let earlier = fixed.len();
+    fixed.push(u.var)?;
+    push_tests(alloc, base, &fixed[..earlier], fixed.as_slice(), ops)
+}
+
 fn push_step(
     alloc: Global,
     decls: &[Decl],
@@ -33,11 +54,7 @@ fn push_step(
         ≡ ops.old ++ op_of fixed.old.items u.now (kind_by f fixed.old.items u.now.var) ∷ tests_due base.now fixed.old.items (fixed.old.items ++ u.now.var ∷ [])) }
 {
     let kind = kind_of(alloc, decls, props, closure, fixed.as_slice(), u.var)?;
-    let op = operation(alloc, fixed.as_slice(), u, kind)?;
-    ops.push(op)?;
-    let earlier = fixed.len();
-    fixed.push(u.var)?;
-    push_tests(alloc, base, &fixed[..earlier], fixed.as_slice(), ops)
+    push_operation(alloc, base, u, kind, fixed, ops)
 }
 
 /// The operations of the variables of an order, each after those that come earlier.

@@ -1,5 +1,4 @@
-use Rattle.std.proofs.Common.{rules, ◌≡◌, ◌∙◌, ap}
-use Rattle.inspector_gen.specs.Known.{knows}
+use Rattle.std.proofs.Common.{rules}
 use Rattle.inspector_gen.proofs.entries.is_below.Goals as goal
 
 pub returns : goal.returns

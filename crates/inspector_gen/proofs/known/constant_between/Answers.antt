@@ -1,4 +1,4 @@
-use Rattle.std.proofs.Common.{◌≡◌, ◌∙◌}
+use Rattle.std.proofs.Common.{◌∙◌}
 use Rattle.inspector_gen.specs.Known.{constant}
 use Rattle.inspector_gen.proofs.known.constant_between.Goals as goal
 

@@ -1,4 +1,4 @@
-use Rattle.std.proofs.Common.{◌≡◌, ◌∙◌}
+use Rattle.std.proofs.Common.{◌∙◌}
 use Rattle.std.specs.List.{flat_map}
 use Rattle.inspector_gen.specs.Kinds.{found_at, located_at}
 use Rattle.inspector_gen.proofs.Orders.{or_some, or_none}

@@ -1,4 +1,4 @@
-use Rattle.std.proofs.Common.{◌≡◌, ◌∙◌, ◌++◌}
+use Rattle.std.proofs.Common.{◌∙◌, ◌++◌}
 use Rattle.std.specs.List.{flat_map}
 use Rattle.inspector_gen.specs.declared.kind.Way.TheVariants as ways
 use Rattle.inspector_gen.specs.Kinds.{found_at, located_at, kinds_along}

@@ -1,6 +1,5 @@
-use Rattle.std.proofs.Common.{rules, ◌≡◌, ◌∷◌, ◌++◌, [], ◌∙◌}
+use Rattle.std.proofs.Common.{◌∙◌}
 use Rattle.inspector_gen.specs.Kinds.{kind_of}
-use Rattle.inspector_gen.specs.Plans.{operation, tests_due}
 use Rattle.inspector_gen.proofs.Orders.{steps_step}
 use Rattle.inspector_gen.proofs.steps.steps.Goals as goal
 

@@ -1,5 +1,5 @@
-use Rattle.std.proofs.Common.{rules, ◌≡◌, ◌∙◌, true, false, ap, sym, subst, get_or}
-use Rattle.inspector_gen.specs.Variables.{around_in, is_at}
+use Rattle.std.proofs.Common.{◌≡◌, ◌∙◌, true, false, ap, sym, subst, get_or}
+use Rattle.inspector_gen.specs.Variables.{is_at}
 use Rattle.inspector_gen.proofs.Rounds.{around_here, around_past, around_end}
 use Rattle.inspector_gen.proofs.variables.around_in.Goals as goal
 

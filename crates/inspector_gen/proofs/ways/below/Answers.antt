@@ -1,6 +1,5 @@
-use Rattle.std.proofs.Common.{rules, ◌≡◌, [], ◌∷◌, true, false, if◌then◌else◌, sym, ap, ◌∙◌, List, ℤ, FitsSigned, to_z, of_z, w64, negsuc, ◌-ℤ◌}
+use Rattle.std.proofs.Common.{rules, ◌≡◌, [], ◌∷◌, if◌then◌else◌, sym, ap, ◌∙◌, FitsSigned, to_z, of_z, w64, negsuc, ◌-ℤ◌}
 use Rattle.std.proofs.lemmas.Int.{to_z-of_z}
-use Rattle.std.specs.List.{cons_option}
 use Rattle.inspector_gen.specs.Known.{knows}
 use Rattle.inspector_gen.specs.Kinds.{if_below}
 use Rattle.inspector_gen.proofs.ways.below.Goals as goal

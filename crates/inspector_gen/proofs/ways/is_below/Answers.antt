@@ -1,7 +1,6 @@
-use Rattle.std.proofs.Common.{rules, ◌≡◌, negsuc, ◌-ℤ◌, ◌∙◌, ap, FitsSigned, to_z, of_z}
+use Rattle.std.proofs.Common.{rules, negsuc, ◌-ℤ◌, FitsSigned}
 use mir.Syntax.{w128}
-use Rattle.std.proofs.lemmas.Int.{to_z-of_z, ints}
-use Rattle.inspector_gen.specs.Known.{knows}
+use Rattle.std.proofs.lemmas.Int.{ints}
 use Rattle.inspector_gen.proofs.ways.is_below.Goals as goal
 
 pub returns : goal.returns

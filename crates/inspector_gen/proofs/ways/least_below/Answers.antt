@@ -1,5 +1,4 @@
-use Rattle.std.proofs.Common.{rules, ◌≡◌, ℤ, pos, ◌+ℤ◌, [], sym, ap, ◌∙◌}
-use Rattle.inspector_gen.specs.Known.{Bounds}
+use Rattle.std.proofs.Common.{rules, ◌≡◌, pos, ◌+ℤ◌, ap, ◌∙◌}
 use Rattle.inspector_gen.specs.Kinds.{if_below, entry_at}
 use Rattle.inspector_gen.proofs.ways.least_below.Goals as goal
 
