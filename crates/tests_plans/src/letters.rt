@@ -8,15 +8,16 @@ use dep_extract::extract::relations;
 use index_props::instances::instances;
 use index_props::rule::RuleInst;
 use index_props::small::are_bounds_small;
-use inspector_gen::plan::plan_for;
-use inspector_run::plan::InspOp;
+use inspector_gen::plain::plain_plan_for;
+use inspector_gen::plan::{plan_for, quick_plan_for};
+use inspector_run::plan::{InspOp, InspPlan};
 use loop_core::nest::Nest;
 use loop_syntax::read::read;
 use sqlite_items::Items;
 use std::alloc::Global;
 use std::test::Fail;
 use uf_constraints::small::are_diffs_small;
-use uf_constraints::system::{Diff, Universe};
+use uf_constraints::system::{Diff, Relation, Universe};
 use uf_constraints::universe::universe;
 
 fn nest_of(alloc: Global, text: &[u8]) -> Result<Nest, Fail> {
@@ -87,9 +88,36 @@ fn letters_of(alloc: Global, ops: &[InspOp]) -> Result<Vec<u8>, Fail> {
     Ok(letters)
 }
 
-/// The operations of the plan of a relation of a text; relations count from 1. `L` loops, `=` lets, `F`
+/// Which plan.
+#[derive(Clone, Copy)]
+pub enum Planner {
+    Sides,
+    OneByOne,
+    Plain,
+}
+
+fn plan_of(
+    alloc: Global,
+    planner: Planner,
+    nest: &Nest,
+    relation: &Relation,
+    closure: &Closure,
+) -> Result<InspPlan, Fail> {
+    match planner {
+        Planner::Sides => Ok(plan_for(alloc, nest, relation, closure)?),
+        Planner::OneByOne => Ok(quick_plan_for(alloc, nest, relation, closure)?),
+        Planner::Plain => Ok(plain_plan_for(alloc, nest, relation)?),
+    }
+}
+
+/// The operations of a plan of a relation of a text; relations count from 1. `L` loops, `=` lets, `F`
 /// finds, `S` searches, `.` tests, `E` emits.
-pub fn letters(alloc: Global, text: &[u8], number: usize) -> Result<Vec<u8>, Fail> {
+pub fn letters_by(
+    alloc: Global,
+    planner: Planner,
+    text: &[u8],
+    number: usize,
+) -> Result<Vec<u8>, Fail> {
     let nest = nest_of(alloc, text)?;
     let relations = relations(alloc, &nest)?;
     let relation = relations
@@ -99,6 +127,11 @@ pub fn letters(alloc: Global, text: &[u8], number: usize) -> Result<Vec<u8>, Fai
     if closure.empty() {
         return Err("the relation is dropped".into());
     }
-    let plan = plan_for(alloc, &nest, relation, &closure)?;
+    let plan = plan_of(alloc, planner, &nest, relation, &closure)?;
     letters_of(alloc, plan.ops.as_slice())
+}
+
+/// Those of the plan in the cheaper order of the sides.
+pub fn letters(alloc: Global, text: &[u8], number: usize) -> Result<Vec<u8>, Fail> {
+    letters_by(alloc, Planner::Sides, text, number)
 }

@@ -1,5 +1,5 @@
 // The plans of relations of worked loops.
-use crate::letters::letters;
+use crate::letters::{Planner, letters, letters_by};
 use crate::texts::{COLUMNS, FORWARD, LOOSE_SCATTER, MAPPED_VALUES, SEIDEL};
 use std::test::Fail;
 
@@ -42,5 +42,29 @@ fn rows_of_entries_are_located(rt: HostRuntime) -> Result<(), Fail> {
     let second = letters(rt.alloc(), MAPPED_VALUES, 4)?;
     assert!(rt; first.as_slice().contains(&b'S'));
     assert!(rt; second.as_slice().contains(&b'S'));
+    Ok(())
+}
+
+// One by one, an entry of j' is found before its row, which is located among the starts of the columns.
+#[test]
+fn columns_one_by_one(rt: HostRuntime) -> Result<(), Fail> {
+    let plan = letters_by(rt.alloc(), Planner::OneByOne, COLUMNS, 9)?;
+    assert!(rt; plan.as_slice() == b"L...L..F..S....E".as_slice());
+    Ok(())
+}
+
+// Where one by one no fewer variables are looped, the plan is that of the sides.
+#[test]
+fn forward_substitution_one_by_one(rt: HostRuntime) -> Result<(), Fail> {
+    let plan = letters_by(rt.alloc(), Planner::OneByOne, FORWARD, 3)?;
+    assert!(rt; plan.as_slice() == b"L...L..=....E".as_slice());
+    Ok(())
+}
+
+// In the plain plan the rows and the entries are all looped.
+#[test]
+fn columns_plainly(rt: HostRuntime) -> Result<(), Fail> {
+    let plan = letters_by(rt.alloc(), Planner::Plain, COLUMNS, 9)?;
+    assert!(rt; plan.as_slice() == b"L...L..L..L....E".as_slice());
     Ok(())
 }
