@@ -11,7 +11,7 @@ use crate::unknown::Unknown;
 use crate::ways::kind_along;
 use bound_close::closure::Closure;
 use loop_core::decl::{Decl, PropDecl};
-use loop_core::nest::VarId;
+use loop_core::nest::{Nest, VarId};
 use sqlite_items::Items;
 use std::alloc::Global;
 use wave_base::types::Memory;
@@ -54,14 +54,15 @@ fn by_entries(
 /// How a variable gets its values from those that come earlier.
 pub fn kind_of(
     alloc: Global,
-    decls: &[Decl],
-    props: &[PropDecl],
+    nest: &Nest,
     closure: &Closure,
     earlier: &[VarId],
     v: VarId,
 ) -> Result<Kind, Memory>
-    ensures { IfOk result (λ kind. (f : Facts) → AreFacts decls.now props.now closure.now f → kind ≡ kind_by f earlier.now v) }
+    ensures { IfOk result (λ kind. (f : Facts) → AreFacts nest.now.decls nest.now.props closure.now f → kind ≡ kind_by f earlier.now v) }
 {
+    let decls = nest.decls.as_slice();
+    let props = nest.props.as_slice();
     let given = kind_along(alloc, closure, earlier, v, Way::Given)?;
     match given {
         Some(kind) => Ok(kind),
@@ -72,17 +73,16 @@ pub fn kind_of(
 /// The kinds of the variables of an order.
 pub fn kinds(
     alloc: Global,
-    decls: &[Decl],
-    props: &[PropDecl],
+    nest: &Nest,
     closure: &Closure,
     order: &[Unknown],
 ) -> Result<Items<Kind>, Memory>
-    ensures { IfOk result (λ kinds. (f : Facts) → AreFacts decls.now props.now closure.now f → kinds ≡ kinds_from (kind_by f) [] order.now) }
+    ensures { IfOk result (λ kinds. (f : Facts) → AreFacts nest.now.decls nest.now.props closure.now f → kinds ≡ kinds_from (kind_by f) [] order.now) }
 {
     let mut earlier = Vec::new(alloc);
     let mut kinds = Items::new(alloc);
     for u in order {
-        let kind = kind_of(alloc, decls, props, closure, earlier.as_slice(), u.var)?;
+        let kind = kind_of(alloc, nest, closure, earlier.as_slice(), u.var)?;
         kinds.push(kind)?;
         earlier.push(u.var)?;
     }

@@ -21,7 +21,6 @@ use crate::variables::{first_side_first, second_side_first};
 use bound_close::closure::Closure;
 use dep_extract::extract::sites;
 use inspector_run::plan::{InspOp, InspPlan};
-use loop_core::decl::{Decl, PropDecl};
 use loop_core::nest::{Nest, Side, VarId};
 use sqlite_items::Items;
 use std::alloc::Global;
@@ -31,16 +30,15 @@ use wave_base::types::Memory;
 // The cheaper of two orders, and the first where both cost the same.
 fn cheaper(
     alloc: Global,
-    decls: &[Decl],
-    props: &[PropDecl],
+    nest: &Nest,
     closure: &Closure,
     first: Items<Unknown>,
     second: Items<Unknown>,
 ) -> Result<Items<Unknown>, Memory>
-    ensures { IfOk result (λ order. (f : Facts) → AreFacts decls.now props.now closure.now f → order ≡ cheaper_of (kind_by f) first second) }
+    ensures { IfOk result (λ order. (f : Facts) → AreFacts nest.now.decls nest.now.props closure.now f → order ≡ cheaper_of (kind_by f) first second) }
 {
-    let ahead = kinds(alloc, decls, props, closure, first.as_slice())?;
-    let other = kinds(alloc, decls, props, closure, second.as_slice())?;
+    let ahead = kinds(alloc, nest, closure, first.as_slice())?;
+    let other = kinds(alloc, nest, closure, second.as_slice())?;
     if is_cheaper(other.as_slice(), ahead.as_slice()) {
         Ok(second)
     } else {
@@ -74,12 +72,10 @@ fn order_of(
     ensures { IfOk result (λ order. (f : Facts) → AreFacts nest.now.decls nest.now.props closure.now f
         → order ≡ cheaper_of (kind_by f) (first_order nest.now r.now) (second_order nest.now r.now)) }
 {
-    let decls = nest.decls.as_slice();
-    let props = nest.props.as_slice();
     let sites = sites(alloc, nest)?;
     let first = first_side_first(alloc, nest, sites.as_slice(), r)?;
     let second = second_side_first(alloc, nest, sites.as_slice(), r)?;
-    Ok(cheaper(alloc, decls, props, closure, first, second)?)
+    Ok(cheaper(alloc, nest, closure, first, second)?)
 }
 
 // The plan that takes the variables in an order.
@@ -93,9 +89,7 @@ fn plan_along(
     ensures { IfOk result (λ plan. (f : Facts) → AreFacts nest.now.decls nest.now.props closure.now f
         → plan.ops ≡ plan_in (kind_by f) nest.now r.now order.now) }
 {
-    let decls = nest.decls.as_slice();
-    let props = nest.props.as_slice();
-    let mut ops = steps(alloc, decls, props, closure, r.base.as_slice(), order)?;
+    let mut ops = steps(alloc, nest, closure, r.base.as_slice(), order)?;
     ops.push(emit(nest))?;
     Ok(InspPlan { ops })
 }
@@ -144,10 +138,8 @@ pub fn quick_plan_for(
 {
     closures_have_tables();
     quick_plans_inspect();
-    let decls = nest.decls.as_slice();
-    let props = nest.props.as_slice();
     let order = order_of(alloc, nest, r, closure)?;
-    let quick = quicker(alloc, decls, props, closure, order)?;
+    let quick = quicker(alloc, nest, closure, order)?;
     let plan = plan_along(alloc, nest, r, closure, quick.as_slice())?;
     Ok(plan)
 }

@@ -11,8 +11,7 @@ use crate::tests::push_tests;
 use crate::unknown::Unknown;
 use bound_close::closure::Closure;
 use inspector_run::plan::InspOp;
-use loop_core::decl::{Decl, PropDecl};
-use loop_core::nest::VarId;
+use loop_core::nest::{Nest, VarId};
 use sqlite_items::Items;
 use std::alloc::Global;
 use uf_constraints::system::Diff;
@@ -41,8 +40,7 @@ pub fn push_operation(
 
 fn push_step(
     alloc: Global,
-    decls: &[Decl],
-    props: &[PropDecl],
+    nest: &Nest,
     closure: &Closure,
     base: &[Diff],
     u: &Unknown,
@@ -50,28 +48,27 @@ fn push_step(
     ops: &mut Items<InspOp>,
 ) -> Result<(), Memory>
     ensures fixed { OnOk result (fixed.new.items ≡ fixed.old.items ++ u.now.var ∷ []) }
-    ensures ops { OnOk result ((f : Facts) → AreFacts decls.now props.now closure.now f → ops.new
+    ensures ops { OnOk result ((f : Facts) → AreFacts nest.now.decls nest.now.props closure.now f → ops.new
         ≡ ops.old ++ op_of fixed.old.items u.now (kind_by f fixed.old.items u.now.var) ∷ tests_due base.now fixed.old.items (fixed.old.items ++ u.now.var ∷ [])) }
 {
-    let kind = kind_of(alloc, decls, props, closure, fixed.as_slice(), u.var)?;
+    let kind = kind_of(alloc, nest, closure, fixed.as_slice(), u.var)?;
     push_operation(alloc, base, u, kind, fixed, ops)
 }
 
 /// The operations of the variables of an order, each after those that come earlier.
 pub fn steps(
     alloc: Global,
-    decls: &[Decl],
-    props: &[PropDecl],
+    nest: &Nest,
     closure: &Closure,
     base: &[Diff],
     order: &[Unknown],
 ) -> Result<Items<InspOp>, Memory>
-    ensures { IfOk result (λ ops. (f : Facts) → AreFacts decls.now props.now closure.now f → ops ≡ steps_of (kind_by f) base.now [] order.now) }
+    ensures { IfOk result (λ ops. (f : Facts) → AreFacts nest.now.decls nest.now.props closure.now f → ops ≡ steps_of (kind_by f) base.now [] order.now) }
 {
     let mut fixed = Vec::new(alloc);
     let mut ops = Items::new(alloc);
     for u in order {
-        push_step(alloc, decls, props, closure, base, u, &mut fixed, &mut ops)?;
+        push_step(alloc, nest, closure, base, u, &mut fixed, &mut ops)?;
     }
     Ok(ops)
 }

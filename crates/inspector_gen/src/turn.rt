@@ -11,8 +11,7 @@ use crate::order::{count_looped, is_looped, kind_of, kinds};
 use crate::unknown::{Span, Unknown};
 use bound_close::closure::Closure;
 use loop_core::copies::copy_term;
-use loop_core::decl::{Decl, PropDecl};
-use loop_core::nest::VarId;
+use loop_core::nest::{Nest, VarId};
 use sqlite_items::Items;
 use std::alloc::Global;
 use wave_base::types::Memory;
@@ -20,18 +19,17 @@ use wave_base::types::Memory;
 // How those that are left get their values from those taken.
 fn kinds_after(
     alloc: Global,
-    decls: &[Decl],
-    props: &[PropDecl],
+    nest: &Nest,
     closure: &Closure,
     taken: &[VarId],
     left: &[Unknown],
 ) -> Result<Items<Kind>, Memory>
-    ensures kinds { IfOk result (λ kinds. (f : Facts) → AreFacts decls.now props.now closure.now f → kinds ≡ all_after (kind_by f) taken.now left.now) }
+    ensures kinds { IfOk result (λ kinds. (f : Facts) → AreFacts nest.now.decls nest.now.props closure.now f → kinds ≡ all_after (kind_by f) taken.now left.now) }
     ensures length { IfOk result (λ kinds. length kinds ≡ length left.now) }
 {
     let mut kinds = Items::new(alloc);
     for u in left {
-        let kind = kind_of(alloc, decls, props, closure, taken, u.var)?;
+        let kind = kind_of(alloc, nest, closure, taken, u.var)?;
         kinds.push(kind)?;
     }
     Ok(kinds)
@@ -47,17 +45,16 @@ fn first_known(kinds: &[Kind]) -> Option<usize>
 // The place of the first of those left that isn't looped by those taken, and the first place where all are.
 fn next_place(
     alloc: Global,
-    decls: &[Decl],
-    props: &[PropDecl],
+    nest: &Nest,
     closure: &Closure,
     taken: &[VarId],
     left: &[Unknown],
 ) -> Result<usize, Memory>
     requires { 0 < length left.now }
-    ensures place { IfOk result (λ k. (f : Facts) → AreFacts decls.now props.now closure.now f → k ≡ place_of (kind_by f) taken.now left.now) }
+    ensures place { IfOk result (λ k. (f : Facts) → AreFacts nest.now.decls nest.now.props closure.now f → k ≡ place_of (kind_by f) taken.now left.now) }
     ensures within { IfOk result (λ k. k < length left.now) }
 {
-    let kinds = kinds_after(alloc, decls, props, closure, taken, left)?;
+    let kinds = kinds_after(alloc, nest, closure, taken, left)?;
     match first_known(kinds.as_slice()) {
         Some(place) => Ok(place),
         None => Ok(0),
@@ -67,8 +64,7 @@ fn next_place(
 // Takes the next of those that are left.
 fn take_next(
     alloc: Global,
-    decls: &[Decl],
-    props: &[PropDecl],
+    nest: &Nest,
     closure: &Closure,
     left: &mut Items<Unknown>,
     taken: &mut Vec<VarId>,
@@ -76,17 +72,10 @@ fn take_next(
 ) -> Result<(), Memory>
     requires { 0 < length left.old }
     ensures left { OnOk result (length left.new + 1 ≡ length left.old) }
-    ensures turn { OnOk result ((f : Facts) → AreFacts decls.now props.now closure.now f → (n : ℕ)
+    ensures turn { OnOk result ((f : Facts) → AreFacts nest.now.decls nest.now.props closure.now f → (n : ℕ)
         → order.new ++ turned (kind_by f) n taken.new.items left.new ≡ order.old ++ turned (kind_by f) (suc n) taken.old.items left.old) }
 {
-    let place = next_place(
-        alloc,
-        decls,
-        props,
-        closure,
-        taken.as_slice(),
-        left.as_slice(),
-    )?;
+    let place = next_place(alloc, nest, closure, taken.as_slice(), left.as_slice())?;
     let next = left.remove(place);
     taken.push(next.var)?;
     order.push(next)?;
@@ -96,19 +85,16 @@ fn take_next(
 // The variables of an order, one by one.
 fn in_turn(
     alloc: Global,
-    decls: &[Decl],
-    props: &[PropDecl],
+    nest: &Nest,
     closure: &Closure,
     mut left: Items<Unknown>,
 ) -> Result<Items<Unknown>, Memory>
-    ensures { IfOk result (λ order. (f : Facts) → AreFacts decls.now props.now closure.now f → order ≡ taken_in_turn (kind_by f) left) }
+    ensures { IfOk result (λ order. (f : Facts) → AreFacts nest.now.decls nest.now.props closure.now f → order ≡ taken_in_turn (kind_by f) left) }
 {
     let mut taken = Vec::new(alloc);
     let mut order = Items::new(alloc);
     for _ in 0..left.len() {
-        take_next(
-            alloc, decls, props, closure, &mut left, &mut taken, &mut order,
-        )?;
+        take_next(alloc, nest, closure, &mut left, &mut taken, &mut order)?;
     }
     Ok(order)
 }
@@ -139,31 +125,29 @@ fn copy_order(alloc: Global, order: &[Unknown]) -> Result<Items<Unknown>, Memory
 // How many variables of an order are looped.
 fn count_loops(
     alloc: Global,
-    decls: &[Decl],
-    props: &[PropDecl],
+    nest: &Nest,
     closure: &Closure,
     order: &[Unknown],
 ) -> Result<usize, Memory>
-    ensures { IfOk result (λ count. (f : Facts) → AreFacts decls.now props.now closure.now f → count ≡ loops_in (kind_by f) order.now) }
+    ensures { IfOk result (λ count. (f : Facts) → AreFacts nest.now.decls nest.now.props closure.now f → count ≡ loops_in (kind_by f) order.now) }
 {
-    let kinds = kinds(alloc, decls, props, closure, order)?;
+    let kinds = kinds(alloc, nest, closure, order)?;
     Ok(count_looped(kinds.as_slice()))
 }
 
 /// The variables one by one, where fewer of them are looped so than in the order itself.
 pub fn quicker(
     alloc: Global,
-    decls: &[Decl],
-    props: &[PropDecl],
+    nest: &Nest,
     closure: &Closure,
     order: Items<Unknown>,
 ) -> Result<Items<Unknown>, Memory>
-    ensures { IfOk result (λ quick. (f : Facts) → AreFacts decls.now props.now closure.now f → quick ≡ quicker_of (kind_by f) order) }
+    ensures { IfOk result (λ quick. (f : Facts) → AreFacts nest.now.decls nest.now.props closure.now f → quick ≡ quicker_of (kind_by f) order) }
 {
     let copy = copy_order(alloc, order.as_slice())?;
-    let turned = in_turn(alloc, decls, props, closure, copy)?;
-    let count = count_loops(alloc, decls, props, closure, turned.as_slice())?;
-    let count_there = count_loops(alloc, decls, props, closure, order.as_slice())?;
+    let turned = in_turn(alloc, nest, closure, copy)?;
+    let count = count_loops(alloc, nest, closure, turned.as_slice())?;
+    let count_there = count_loops(alloc, nest, closure, order.as_slice())?;
     if count < count_there {
         Ok(turned)
     } else {

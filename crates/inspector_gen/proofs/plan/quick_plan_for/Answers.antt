@@ -18,10 +18,8 @@ returns c =
     λ bounds table.
     let f = facts_of nest k bounds in
     let facts : AreFacts nest.decls nest.props k f = record { decls_are = refl; props_are = refl; atoms_are = refl; table = table } in
-    let here : AreFacts c.as_slice-decls.result.now c.as_slice-props.result.now k f =
-    record { decls_are = sym c.as_slice-decls.ensures; props_are = sym c.as_slice-props.ensures; atoms_are = refl; table = table } in
     let along : c.as_slice.result.now ≡ c.in_ok-quick.quick = search rules in
-    c.in_ok-plan.ensures f facts ∙ ap (plan_in (kind_of f) nest r) (along ∙ c.in_ok-quick.ensures f here ∙ ap (quicker (kind_of f)) (c.in_ok-order.ensures f facts)) in
+    c.in_ok-plan.ensures f facts ∙ ap (plan_in (kind_of f) nest r) (along ∙ c.in_ok-quick.ensures f facts ∙ ap (quicker (kind_of f)) (c.in_ok-order.ensures f facts)) in
     record {
       plan = exact;
       form = λ own.

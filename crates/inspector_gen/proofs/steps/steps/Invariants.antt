@@ -6,5 +6,5 @@ use Rattle.inspector_gen.proofs.steps.steps.Given as goal
 
 -- the operations so far, and those of the variables that are left
 abbrev pub invariant-loop-u : goal.invariant-loop-u
-invariant-loop-u l = (f : Facts) → AreFacts l.decls l.props l.closure f
+invariant-loop-u l = (f : Facts) → AreFacts l.nest.decls l.nest.props l.closure f
     → l.ops ++ steps (kind_of f) l.base l.fixed.items (drop l.u-index l.order) ≡ steps (kind_of f) l.base [] l.order

@@ -6,6 +6,6 @@ use Rattle.inspector_gen.proofs.turn.kinds_after.Given as goal
 
 -- the kinds so far, and those of the variables that follow
 abbrev pub invariant-loop-u : goal.invariant-loop-u
-invariant-loop-u l = ((f : Facts) → AreFacts l.decls l.props l.closure f
+invariant-loop-u l = ((f : Facts) → AreFacts l.nest.decls l.nest.props l.closure f
     → l.kinds ++ kinds_after (kind_of f) l.taken (drop l.u-index l.left) ≡ kinds_after (kind_of f) l.taken l.left)
     × (length l.kinds ≡ l.u-index)
