@@ -1,3 +1,6 @@
 pub mod ArrayText
 pub mod Line
+pub mod LooksText
+pub mod PlanText
 pub mod RelationText
+pub mod SummaryText

@@ -1,6 +1,11 @@
-//! The printed texts of relations and of arrays.
+//! The printed texts of relations, summaries, plans, replays and arrays.
 #![tactic(auto)]
 
 pub mod arrays;
+pub mod counts;
 pub mod laws;
+pub mod looks;
+mod pieces;
+pub mod plan;
 pub mod relation;
+pub mod summary;

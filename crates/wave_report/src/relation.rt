@@ -1,9 +1,9 @@
 // The printed line of a relation.
-ghost use Rattle.std.specs.Prelude.{◌≡◌, ◌++◌, ◌||◌, codes, decimal, IfOk, OnOk, IsTrue};
+ghost use Rattle.std.specs.Prelude.{◌≡◌, ◌++◌, ◌||◌, codes, IfOk, OnOk, IsTrue};
 ghost use Rattle.std.specs.String.{string_bytes};
 ghost use Rattle.wave_report.specs.RelationText.{reference_text, kind_text, verdict_text, relation_text};
 
-use itoa::Buffer;
+use crate::pieces::{put, put_number};
 use std::alloc::Global;
 use uf_constraints::system::Reference;
 use wave_base::types::Memory;
@@ -42,16 +42,6 @@ pub fn relation(
     Ok(text)
 }
 
-// Puts a word and a number after it.
-fn put_number(text: &mut String, word: &str, number: u64) -> Result<(), Memory>
-    ensures { OnOk result (string_bytes text.new ≡ string_bytes text.old ++ (word.now ++ decimal number)) }
-{
-    let mut buffer = Buffer::new();
-    text.push_str(word)?;
-    text.push_str(buffer.format(number))?;
-    Ok(())
-}
-
 fn put_reference(text: &mut String, reference: &Reference) -> Result<(), Memory>
     ensures { OnOk result (string_bytes text.new
         ≡ string_bytes text.old ++ (codes " " ++ reference_text reference.now)) }
@@ -78,11 +68,4 @@ fn put_verdict(text: &mut String, said: Said) -> Result<(), Memory>
         Said::Covered(number) => put_number(text, " covered ", u64::from(number)),
         Said::Kept => put(text, " kept"),
     }
-}
-
-fn put(text: &mut String, word: &str) -> Result<(), Memory>
-    ensures { OnOk result (string_bytes text.new ≡ string_bytes text.old ++ word.now) }
-{
-    text.push_str(word)?;
-    Ok(())
 }
