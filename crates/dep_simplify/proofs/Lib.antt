@@ -1,7 +1,7 @@
 mod Asked
 mod Dependent
-mod Fits
-mod Follow
+pub mod Fits
+pub mod Follow
 mod Judging
 mod Refuting
 mod SoFar

@@ -1,0 +1,4 @@
+pub mod OnePlan
+pub mod Owning
+pub mod Pairs
+pub mod Weighing
