@@ -1,41 +1,54 @@
 // What whole calls answer, over files in memory.
-use crate::calls::{LOOP, MATRIX, ONE_VECTOR, RUN, VECTOR, call, library, stream, strings};
+use crate::calls::{
+    LOOP, MATRIX, ONE_VECTOR, RUN, RUN_TEXT, VECTOR, call, library, stream, strings,
+};
 use std::test::Fail;
 use wave_main::status::Status;
 use wave_main::top::quiet_main;
 
-const ONE_MATRIX: &str = "%%MatrixMarket matrix coordinate integer general\n1 1 1\n1 1 1\n";
+pub const ONE_MATRIX: &str = "%%MatrixMarket matrix coordinate integer general\n1 1 1\n1 1 1\n";
 
-const BY_COLUMNS: &str =
+pub const BY_COLUMNS: &str =
     "matrix a csc\nvector x n file\nrange a.ptr 0 nnz+1\nrange a.row 0 n\nrising a.ptr\nsorted a.row by a.ptr\ndiagonal a.diag of a.row by a.ptr\nloop j\n  set x[j] = x[j] / a.val[a.diag[j]]\n  for p in a.diag[j]+1..a.ptr[j+1]\n    set x[a.row[p]] = x[a.row[p]] - a.val[p] * x[j]\n  end\nend\n";
 
-const BY_COLUMNS_MATRIX: &str =
+pub const BY_COLUMNS_MATRIX: &str =
     "%%MatrixMarket matrix coordinate integer general\n4 4 6\n1 1 1\n2 2 1\n3 3 1\n4 4 1\n4 2 2\n4 3 3\n";
 
-const BY_COLUMNS_VECTOR: &str = "%%MatrixMarket matrix array integer general\n4 1\n5\n1\n2\n20\n";
+pub const BY_COLUMNS_VECTOR: &str =
+    "%%MatrixMarket matrix array integer general\n4 1\n5\n1\n2\n20\n";
 
-const NO_DIAGONAL: &str =
+pub const NO_DIAGONAL: &str =
     "%%MatrixMarket matrix coordinate integer general\n3 3 4\n1 1 1\n2 1 2\n3 2 3\n3 3 1\n";
 
 const CHECK: [&str; 4] = ["check", "L", "A", "B"];
 
-const SCATTER: &str =
+pub const SCATTER: &str =
     "matrix a csr\nindex q n\nvector x n zero\nrange q 0 n\nloop i\n  set x[q[i]] = 5\nend\n";
 
-const PLACES: &str = "%%MatrixMarket matrix array integer general\n3 1\n2\n0\n1\n";
+pub const PLACES: &str = "%%MatrixMarket matrix array integer general\n3 1\n2\n0\n1\n";
 
 #[test]
-fn runs_print_the_solution(rt: HostRuntime) -> Result<(), Fail> {
+fn runs_print_the_numbers_and_the_solution(rt: HostRuntime) -> Result<(), Fail> {
     let table = [
-        (LOOP, MATRIX, VECTOR, "array x 3\n1\n0\n3\n"),
-        (LOOP, ONE_MATRIX, ONE_VECTOR, "array x 1\n7\n"),
+        (LOOP, MATRIX, VECTOR, RUN_TEXT),
+        (
+            LOOP,
+            ONE_MATRIX,
+            ONE_VECTOR,
+            "relations 12 dropped 10 covered 1 kept 1\nrows 1 stored 1 edges 0\nlevels 1 tasks 1 cross 0 waits 0\narray x 1\n7\n",
+        ),
         (
             BY_COLUMNS,
             BY_COLUMNS_MATRIX,
             BY_COLUMNS_VECTOR,
-            "array x 4\n5\n1\n2\n12\n",
+            "relations 16 dropped 9 covered 5 kept 2\nrows 4 stored 6 edges 3\nlevels 3 tasks 3 cross 0 waits 0\narray x 4\n5\n1\n2\n12\n",
         ),
-        (SCATTER, MATRIX, PLACES, "array x 3\n5\n5\n5\n"),
+        (
+            SCATTER,
+            MATRIX,
+            PLACES,
+            "relations 1 dropped 0 covered 0 kept 1\nrows 3 stored 5 edges 0\nlevels 1 tasks 1 cross 0 waits 0\narray x 3\n5\n5\n5\n",
+        ),
     ];
     for (text, matrix, vector, wanted) in table {
         let outcome = call(&rt, &RUN, &[("L", text), ("A", matrix), ("B", vector)])?;
@@ -66,11 +79,9 @@ fn words_of_no_command_are_refused(rt: HostRuntime) -> Result<(), Fail> {
 
 #[test]
 fn commands_that_are_not_built_are_refused(rt: HostRuntime) -> Result<(), Fail> {
-    let table: [(&[&str], &str); 4] = [
+    let table: [(&[&str], &str); 2] = [
         (&["run", "L", "A", "2", "B"], "not built word 3\n"),
-        (&["plan", "L", "A", "1", "B"], "not built word 0\n"),
         (&["demo", "lower", "0", "64"], "not built word 0\n"),
-        (&["replay", "L", "A", "1", "O"], "not built word 0\n"),
     ];
     for (words, line) in table {
         let outcome = call(&rt, words, &[])?;
@@ -196,6 +207,7 @@ fn the_quiet_call_leaves_runs_to_others(rt: HostRuntime) -> Result<(), Fail> {
         (["show", "L"], Status::Done),
         (["check", "L"], Status::Usage { word: 2 }),
         (["explain", "L"], Status::Done),
+        (["plan", "L"], Status::Usage { word: 2 }),
         (["run", "L"], Status::Usage { word: 0 }),
         (["demo", "grid"], Status::Usage { word: 0 }),
     ] {

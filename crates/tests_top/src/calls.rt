@@ -19,6 +19,9 @@ pub const VECTOR: &str = "%%MatrixMarket matrix array integer general\n3 1\n1\n2
 
 pub const ONE_VECTOR: &str = "%%MatrixMarket matrix array integer general\n1 1\n7\n";
 
+pub const RUN_TEXT: &str =
+    "relations 12 dropped 10 covered 1 kept 1\nrows 3 stored 5 edges 2\nlevels 3 tasks 3 cross 0 waits 0\narray x 3\n1\n0\n3\n";
+
 pub const RUN: [&str; 5] = ["run", "L", "A", "1", "B"];
 
 /// How a call ended, and what it put.
@@ -56,7 +59,7 @@ pub fn library(alloc: Global, files: &[(&str, &str)], fail: &[u64]) -> Result<Me
 }
 
 /// A call on words, with a library and two streams.
-pub fn call_over<R: AllocGlobal + Threads + Wait>(
+pub fn call_over<R: AllocGlobal + Threads + Sync + Wait>(
     rt: &R,
     words: &[&str],
     mut lib: MemLibrary,
@@ -81,7 +84,7 @@ pub fn stream(alloc: Global, room: usize, piece: usize) -> Result<MemSink, Memor
 }
 
 /// A call on words and files, with ample streams.
-pub fn call<R: AllocGlobal + Threads + Wait>(
+pub fn call<R: AllocGlobal + Threads + Sync + Wait>(
     rt: &R,
     words: &[&str],
     files: &[(&str, &str)],

@@ -8,4 +8,8 @@ mod binding;
 #[cfg(test)]
 mod calls;
 #[cfg(test)]
+mod plans;
+#[cfg(test)]
+mod replays;
+#[cfg(test)]
 mod streams;

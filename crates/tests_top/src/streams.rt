@@ -1,5 +1,7 @@
 // Calls whose files or streams fail.
-use crate::calls::{LOOP, MATRIX, Outcome, RUN, VECTOR, call, call_over, library, stream};
+use crate::calls::{
+    LOOP, MATRIX, Outcome, RUN, RUN_TEXT, VECTOR, call, call_over, library, stream,
+};
 use std::sync::Wait;
 use std::test::Fail;
 use std::thread::Threads;
@@ -19,7 +21,7 @@ fn a_missing_file_is_named(rt: HostRuntime) -> Result<(), Fail> {
 }
 
 /// A run of this loop in which the fetch of that number fails.
-fn failing_at<R: AllocGlobal + Threads + Wait>(
+fn failing_at<R: AllocGlobal + Threads + Sync + Wait>(
     rt: &R,
     text: &str,
     number: u64,
@@ -69,7 +71,7 @@ fn a_full_output_keeps_a_first_part(rt: HostRuntime) -> Result<(), Fail> {
         stream(alloc, 7, 1000)?,
         stream(alloc, 100, 100)?,
     )?;
-    assert!(rt; outcome.is(8, "array x", "write\n"));
+    assert!(rt; outcome.is(8, "relatio", "write\n"));
     Ok(())
 }
 
@@ -92,7 +94,7 @@ fn streams_that_take_a_byte_at_once_get_all(rt: HostRuntime) -> Result<(), Fail>
         stream(alloc, 1000, 1)?,
         stream(alloc, 100, 1)?,
     )?;
-    assert!(rt; outcome.is(0, "array x 3\n1\n0\n3\n", ""));
+    assert!(rt; outcome.is(0, RUN_TEXT, ""));
     assert!(rt; refused.is(7, "", "read word 1\n"));
     Ok(())
 }

@@ -1,5 +1,7 @@
 -- At most one refusal stands, none beside a text, and a command has one text.
-use Rattle.std.proofs.Common.{ℕ, ℤ, ◌+◌, ◌≡◌, inl, inr, List, [], ◌∷◌, map, Option, Some, refl, sym, ◌∙◌, ap, subst}
+use Rattle.std.proofs.lemmas.List.{length-map}
+use Rattle.std.specs.Prelude.{Bool, ◌++◌, cond, count_by, fold, length}
+use Rattle.std.proofs.Common.{ℕ, ℤ, ◌+◌, ◌≡◌, inl, inr, List, [], ◌∷◌, map, Option, Some, refl, sym, ◌∙◌, ap, subst, arith, ◌%◌, ◌^◌}
 use Rattle.loop_core.specs.declared.nest.Nest.{Nest}
 use Rattle.loop_core.specs.Lists.{Lists}
 use Rattle.loop_print.specs.PrintText.{nest_text}
@@ -19,7 +21,24 @@ use Rattle.wave_main.specs.Answers.{AreFilesOf, AreTold}
 use Rattle.wave_main.specs.Binding.{index_arrays, data_arrays}
 use Rattle.wave_main.specs.Commands.{IsText, Prints, Refuses, inputs_of, stages}
 use Rattle.wave_main.specs.Files.{Inputs, word_of}
-use Rattle.wave_main.specs.Run.{IsInput, IsWork, Work, run_text}
+use Rattle.plan_build.specs.declared.build.Built.{Built}
+use Rattle.loop_plan.specs.Numbers.{is_dropped, is_covered, is_kept}
+use Rattle.loop_plan.specs.Planned.{IsPlanOf}
+use Rattle.loop_plan.proofs.OnePlan.{one_plan_of}
+use Rattle.wave_report.specs.declared.counts.Summary.{Summary}
+use Rattle.wave_report.specs.SummaryText.{summary_text}
+use Rattle.wave_report.specs.PlanText.{plan_text}
+use Rattle.wave_main.specs.Run.{IsInput, IsWork, Work, WorkPrints, run_arrays, run_text, summary_of, whole_plan_text}
+use Rattle.std.proofs.lemmas.Bool.{cases_lt}
+use Rattle.core_law.specs.Machine.{State, opening}
+use Rattle.core_run.specs.Orders.{looks_in, passed_in}
+use Rattle.core_machine.specs.declared.work.Work as core
+use Rattle.core_machine.specs.FitWork.{plain}
+use Rattle.core_machine.specs.Replays.{IsReplay, with_rounds}
+use Rattle.wave_report.specs.LooksText.{looks_text}
+use Rattle.wave_main.specs.Matrices.{vectors_of}
+use Rattle.wave_main.specs.Orders.{order_of, order_numbers}
+use Rattle.wave_main.specs.Replay.{AreLooks, ReplayPrints, core_work, replay_text}
 use Rattle.wave_main.specs.Stages.{AcceptAll, IsRefusedBy}
 use Rattle.wave_main.specs.Texts.{ExplainPrints, passed_text, relation_lines, said}
 use Rattle.wave_main.proofs.FileLaws.{same_inputs}
@@ -36,8 +55,8 @@ one_refusal ws files a b x y = elim x [
     | inl other ↦ absurd (built_stands ws form b built other)
     | inr (again, also, other) ↦
         let same = one_form ws form again built also in
-        let P : Form → Type 0 = λ f. IsRefusedBy (stages f) (inputs_of f files) b in
-        one_by_stages (stages form) (inputs_of form files) a b calls (subst P same other)
+        let P : Form → Type 0 = λ f. IsRefusedBy (stages f ws) (inputs_of f files) b in
+        one_by_stages (stages form ws) (inputs_of form files) a b calls (subst P same other)
   ]
 ]
 
@@ -46,8 +65,8 @@ no_refusal ws files text why (form, built, accept, is) x = elim x [
   | inl words ↦ built_stands ws form why built words
   | inr (again, also, calls) ↦
       let same = one_form ws form again built also in
-      let P : Form → Type 0 = λ f. IsRefusedBy (stages f) (inputs_of f files) why in
-      none_by_stages (stages form) (inputs_of form files) why accept (subst P same calls)
+      let P : Form → Type 0 = λ f. IsRefusedBy (stages f ws) (inputs_of f files) why in
+      none_by_stages (stages form ws) (inputs_of form files) why accept (subst P same calls)
 ]
 
 -- ---- one text
@@ -70,9 +89,9 @@ pub one_work : (ws : List (List ℕ)) (files : Inputs) (a b : Work) → IsWork w
 one_work ws files a b x y =
     let i : a.input ≡ b.input = one_input files a.input b.input x.input y.input in
     let w : a.workers ≡ b.workers = same_number (number (word_of ws 3)) a.workers b.workers x.workers y.workers in
-    let one : a ≡ record { input = b.input; workers = a.workers } = ap (λ (l : Input). record { input = l; workers = a.workers }) i in
-    let two : record { input = b.input; workers = a.workers } ≡ b = ap (λ k. record { input = b.input; workers = k }) w in
-    one ∙ two
+    let Of : Input × ℕ → Type 0 = λ s. IsPlanOf s.0.nest s.0.arrays s.0.values s.1 a.plan in
+    let p : a.plan ≡ b.plan = one_plan_of b.input.nest b.input.arrays b.input.values b.workers a.plan b.plan (subst Of (λ k. (i k, w k)) x.plan) y.plan in
+    λ k. record { input = i k; workers = w k; plan = p k }
 
 -- verdicts that agree, certificates aside, are printed alike
 said_bare : (v : Verdict) → said (bare v) ≡ said v
@@ -100,15 +119,96 @@ one_explained files t u x y =
     ∙ ap (λ (n : Nest). relation_lines 1 (relations n) y.verdicts) (sym same)
     ∙ sym y.printed
 
+-- counts of verdicts that agree, certificates aside, are equal
+summed_bare : (f : Verdict → ℕ) → ((v : Verdict) → f (bare v) ≡ f v) → (n : ℕ) (vs : List Verdict) → fold (λ a v. a + f v) n (map bare vs) ≡ fold (λ a v. a + f v) n vs
+summed_bare f same n [] = refl
+summed_bare f same n (v ∷ vs) = summed_bare f same (n + f (bare v)) vs ∙ ap (λ m. fold (λ a w. a + f w) (n + m) vs) (same v)
+
+count_bare : (test : Verdict → Bool) → ((v : Verdict) → test (bare v) ≡ test v) → (vs : List Verdict) → count_by test (map bare vs) ≡ count_by test vs
+count_bare test same vs = summed_bare (λ v. cond (test v) 1 0) (λ v. ap (λ (b : Bool). cond b 1 0) (same v)) 0 vs
+
+same_count : (test : Verdict → Bool) → ((v : Verdict) → test (bare v) ≡ test v) → (vs ws : List Verdict) → map bare vs ≡ map bare ws → count_by test vs ≡ count_by test ws
+same_count test same vs ws e = sym (count_bare test same vs) ∙ ap (count_by test) e ∙ count_bare test same ws
+
+bare_dropped : (v : Verdict) → is_dropped (bare v) ≡ is_dropped v
+bare_dropped (verdicts.Dropped cert) = refl
+bare_dropped (verdicts.Covered number) = refl
+bare_dropped verdicts.Kept = refl
+
+bare_covered : (v : Verdict) → is_covered (bare v) ≡ is_covered v
+bare_covered (verdicts.Dropped cert) = refl
+bare_covered (verdicts.Covered number) = refl
+bare_covered verdicts.Kept = refl
+
+bare_kept : (v : Verdict) → is_kept (bare v) ≡ is_kept v
+bare_kept (verdicts.Dropped cert) = refl
+bare_kept (verdicts.Covered number) = refl
+bare_kept verdicts.Kept = refl
+
+same_long : (vs ws : List Verdict) → map bare vs ≡ map bare ws → length vs ≡ length ws
+same_long vs ws e = sym (length-map vs bare) ∙ ap (λ (l : List Verdict). length l) e ∙ length-map ws bare
+
+one_summary : (input : Input) (plan : Built) (vs ws : List Verdict) → map bare vs ≡ map bare ws → summary_of input vs plan ≡ summary_of input ws plan
+one_summary input plan vs ws e =
+    let long = same_long vs ws e in
+    let dropped = same_count is_dropped bare_dropped vs ws e in
+    let covered = same_count is_covered bare_covered vs ws e in
+    let kept = same_count is_kept bare_kept vs ws e in
+    let with : ℕ → ℕ → ℕ → ℕ → Summary = λ l d c k. record { relations = l; dropped = d; covered = c; kept = k; rows = (summary_of input vs plan).rows; stored = (summary_of input vs plan).stored; edges = plan.edges; levels = plan.levels; tasks = (summary_of input vs plan).tasks; cross = plan.cross; waits = (summary_of input vs plan).waits } in
+    λ j. with (long j) (dropped j) (covered j) (kept j)
+
+-- a text that depends on the verdicts but for their certificates
+abbrev IsBlind : (Work → List Verdict → List ℕ) → Type 0
+IsBlind text_of = (work : Work) (vs ws : List Verdict) → map bare vs ≡ map bare ws → text_of work vs ≡ text_of work ws
+
+run_is_blind : IsBlind run_text
+run_is_blind work vs ws e = ap (λ (s : Summary). summary_text s ++ run_arrays work.input) (one_summary work.input work.plan vs ws e)
+
+plan_is_blind : IsBlind whole_plan_text
+plan_is_blind work vs ws e = ap (λ (s : Summary). summary_text s ++ plan_text work.plan.chain work.plan.sched) (one_summary work.input work.plan vs ws e)
+
+one_of_work : (text_of : Work → List Verdict → List ℕ) → IsBlind text_of → (ws : List (List ℕ)) (files : Inputs) (t u : List ℕ) → WorkPrints ws files t text_of → WorkPrints ws files u text_of → t ≡ u
+one_of_work text_of blind ws files t u x y =
+    let same : y.work ≡ x.work = one_work ws files y.work x.work y.is_work x.is_work in
+    let Of : Work → Type 0 = λ w. AreVerdicts w.input.nest y.verdicts in
+    let list : map bare x.verdicts ≡ map bare y.verdicts = one_list x.work.input.nest x.verdicts y.verdicts x.are_verdicts (subst Of same y.are_verdicts) in
+    x.printed ∙ blind x.work x.verdicts y.verdicts list ∙ ap (λ (w : Work). text_of w y.verdicts) (sym same) ∙ sym y.printed
+
+-- an order of a work has one number of looks, and one of those that passed
+one_looks : (work : core.Work) (state : State) (order : List ℕ) (l p m q : ℕ) → IsReplay work state order l p → IsReplay work state order m q → (l ≡ m) × (p ≡ q)
+one_looks work state order l p m q x y =
+    let same : x.rounds ≡ y.rounds = elim (cases_lt x.rounds y.rounds) [
+      | inl lt ↦ absurd (y.least x.rounds lt x.ended)
+      | inr ge ↦ elim (cases_lt y.rounds x.rounds) [
+        | inl lt ↦ absurd (x.least y.rounds lt y.ended)
+        | inr le ↦ omega (arith, ge, le)
+      ]
+    ] in (
+      x.looks_are ∙ ap (λ n. looks_in (plain work) (with_rounds work order n) state % 2 ^ 64) same ∙ sym y.looks_are,
+      x.passed_are ∙ ap (λ n. passed_in (plain work) (with_rounds work order n) state % 2 ^ 64) same ∙ sym y.passed_are,
+    )
+
+one_replayed : (ws : List (List ℕ)) (files : Inputs) (t u : List ℕ) → ReplayPrints ws files t → ReplayPrints ws files u → t ≡ u
+one_replayed ws files t u x y =
+    let order = order_numbers (order_of (vectors_of files.vectors)) in
+    let same : y.work ≡ x.work = one_work ws files y.work x.work y.is_work x.is_work in
+    let Of : Work → Type 0 = λ w. AreVerdicts w.input.nest y.verdicts in
+    let list : map bare x.verdicts ≡ map bare y.verdicts = one_list x.work.input.nest x.verdicts y.verdicts x.are_verdicts (subst Of same y.are_verdicts) in
+    let theirs : AreLooks x.work order y.looks y.passed = subst (λ (w : Work). AreLooks w order y.looks y.passed) same y.are_looks in
+    let both = one_looks (core_work x.work) (opening (plain (core_work x.work))) order x.looks x.passed y.looks y.passed x.are_looks theirs in
+    let with : Summary → ℕ → ℕ → List ℕ = λ s l p. summary_text s ++ looks_text l p ++ run_arrays x.work.input in
+    let summaries = one_summary x.work.input x.work.plan x.verdicts y.verdicts list in
+    x.printed ∙ (λ k. with (summaries k) (both.0 k) (both.1 k)) ∙ ap (λ (w : Work). replay_text w y.verdicts y.looks y.passed) (sym same) ∙ sym y.printed
+
 pub one_text_of : (form : Form) (ws : List (List ℕ)) (files : Inputs) (t u : List ℕ) → IsText form ws files t → IsText form ws files u → t ≡ u
-one_text_of forms.Run ws files t u x y = x.printed ∙ ap (λ (w : Work). run_text w.input) (one_work ws files x.work y.work x.is_work y.is_work) ∙ sym y.printed
+one_text_of forms.Run ws files t u x y = one_of_work run_text run_is_blind ws files t u x y
 one_text_of forms.Check ws files t u x y = x.printed ∙ ap passed_text (one_loop files.loop_file x.nest y.nest x.is_loop y.is_loop) ∙ sym y.printed
 one_text_of forms.Explain ws files t u x y = one_explained files t u x y
 one_text_of forms.Show ws files t u x y = x.printed ∙ ap nest_text (one_loop files.loop_file x.nest y.nest x.is_loop y.is_loop) ∙ sym y.printed
 one_text_of forms.DemoGrid ws files t u x y = absurd x
 one_text_of forms.DemoLower ws files t u x y = absurd x
-one_text_of forms.Plan ws files t u x y = absurd x
-one_text_of forms.Replay ws files t u x y = absurd x
+one_text_of forms.Plan ws files t u x y = one_of_work whole_plan_text plan_is_blind ws files t u x y
+one_text_of forms.Replay ws files t u x y = one_replayed ws files t u x y
 
 pub one_text : (ws files : List (List ℕ)) (t u : List ℕ) → Prints ws files t → Prints ws files u → t ≡ u
 one_text ws files t u (form, built, accept, is) (again, also, accepted, other) =
@@ -121,7 +221,7 @@ one_text ws files t u (form, built, accept, is) (again, also, accepted, other) =
 pub told_prints : (held : List ℕ → Option (List ℕ)) (ws files told : List (List ℕ)) (text : List ℕ) → AreFilesOf held ws files → AreTold held ws told → Prints ws told text → Prints ws files text
 told_prints held ws files told text are is (form, built, accept, prints) =
     let same = sym (same_inputs held ws files told form built are is) in
-    let P : Inputs → Type 0 = λ x. AcceptAll (stages form) x in
+    let P : Inputs → Type 0 = λ x. AcceptAll (stages form ws) x in
     let Q : Inputs → Type 0 = λ x. IsText form ws x text in
     (form, built, subst P same accept, subst Q same prints)
 
@@ -129,6 +229,6 @@ pub told_refuses : (held : List ℕ → Option (List ℕ)) (ws files told : List
 told_refuses held ws files told why are is x = elim x [
   | inl words ↦ inl words
   | inr (form, built, calls) ↦
-      let P : Inputs → Type 0 = λ i. IsRefusedBy (stages form) i why in
+      let P : Inputs → Type 0 = λ i. IsRefusedBy (stages form ws) i why in
       inr (form, built, subst P (same_inputs held ws files told form built are is) calls)
 ]

@@ -37,7 +37,7 @@ words_end ws files changes status calls same =
 refusal_ends : (ws files : List (List ℕ)) (changes : Changes) (status : Status) → Refuses ws files status → changes.after ≡ changes.before → Ends ws files changes status
 refusal_ends ws files changes status calls same = elim calls [
   | inl words ↦ words_end ws files changes status words same
-  | inr (form, built, by) ↦ fault_ends ws files changes status (refused_faulty (stages form) (inputs_of form files) status by) (inr (form, built, by)) same
+  | inr (form, built, by) ↦ fault_ends ws files changes status (refused_faulty (stages form ws) (inputs_of form files) status by) (inr (form, built, by)) same
 ]
 
 abbrev Ended : (List ℕ → Option (List ℕ)) → List (List ℕ) → Changes → Status → Type 0

@@ -11,7 +11,7 @@ use Rattle.std.proofs.lemmas.List.{length-append, length-replicate, length-drop,
 use Rattle.wave_words.specs.declared.form.Form.{Form}
 use Rattle.wave_main.specs.declared.fetch.InputBytes.{InputBytes}
 use Rattle.wave_main.specs.Answers.{AreFilesOf, AreTold}
-use Rattle.wave_main.specs.Commands.{IsBuilt, IsFilePlace, first_file, inputs_of}
+use Rattle.wave_main.specs.Commands.{IsBuilt, IsFilePlace, first_file, inputs_of, skipped}
 use Rattle.wave_main.specs.Fetching.{IsInputFetched, IsInputFault, IsFaultFrom}
 use Rattle.wave_main.specs.Files.{Inputs, MayBe, IsFetched, IsOfFile, AreFetched, MayBeAll, AreOfFiles, word_of}
 use Rattle.wave_main.proofs.WordLaws.{one_form}
@@ -170,12 +170,7 @@ same_inputs held ws files told form built are is =
     let l = same_place held ws files told form built are is 1 (inl refl) in
     let m = same_place held ws files told form built are is 2 (inr (inl refl)) in
     let v = same_vectors held ws files told form built are is in
-    let n = first_file form in
-    let first : Inputs = inputs_of form files in
-    let one : first ≡ record { loop_file = word_of told 1; matrix = word_of files 2; vectors = drop n files; first = n } = ap (λ (x : List ℕ). record { loop_file = x; matrix = word_of files 2; vectors = drop n files; first = n }) l in
-    let two : record { loop_file = word_of told 1; matrix = word_of files 2; vectors = drop n files; first = n } ≡ record { loop_file = word_of told 1; matrix = word_of told 2; vectors = drop n files; first = n } = ap (λ (x : List ℕ). record { loop_file = word_of told 1; matrix = x; vectors = drop n files; first = n }) m in
-    let three : record { loop_file = word_of told 1; matrix = word_of told 2; vectors = drop n files; first = n } ≡ inputs_of form told = ap (λ (x : List (List ℕ)). record { loop_file = word_of told 1; matrix = word_of told 2; vectors = x; first = n }) v in
-    one ∙ two ∙ three
+    λ k. record { loop_file = l k; matrix = m k; vectors = v k; first = first_file form; skips = skipped form }
 
 -- ---- names among the words of a call
 

@@ -1,6 +1,9 @@
 pub mod WordLaws
 pub mod FileLaws
 pub mod StageLaws
+pub mod InputLaws
+pub mod PlanLaws
+pub mod Ordering
 pub mod EndLaws
 pub mod AnswerLaws
 pub mod AnswerOf

@@ -1,8 +1,10 @@
 -- What was fetched of a command's files, and the text that it makes of them.
-use Rattle.std.proofs.Common.{ℕ, ◌≡◌, ◌⊎◌, inl, inr, ◌<◌, ◌≤◌, List, Option, length, refl, subst}
+use Rattle.std.proofs.Common.{ℕ, ◌≡◌, ◌⊎◌, inl, inr, ◌<◌, ◌≤◌, List, Option, Some, length, refl, subst}
 use Rattle.std.specs.Prelude.{Result, Ok, Err, Vec, IfOk, IfErr, MatchResult}
 use Rattle.std.specs.declared.alloc.Global.{Global}
 use Rattle.wave_io.specs.Faults.{Rose}
+use Rattle.dep_simplify.specs.declared.verdict.Verdict.{Verdict}
+use Rattle.wave_words.specs.Forms.{number}
 use Rattle.wave_words.specs.declared.form.Form.{Form}
 use Rattle.loop_core.specs.declared.nest.Nest.{Nest}
 use Rattle.loop_core.specs.Lists.{Lists}
@@ -18,7 +20,8 @@ use Rattle.wave_main.specs.Commands.{IsBuilt, IsText, first_file, inputs_of, sta
 use Rattle.wave_main.specs.Fetching.{IsInputFault, IsInputFetched}
 use Rattle.wave_main.specs.Files.{Inputs, word_of}
 use Rattle.wave_main.specs.Making.{IsMade, IsMissed}
-use Rattle.wave_main.specs.Run.{IsInput}
+use Rattle.wave_main.specs.Planning.{HasText, work_of}
+use Rattle.wave_main.specs.Run.{IsInput, Work, WorkPrints}
 use Rattle.wave_main.specs.Stages.{AcceptAll, IsRefusedBy, Accepts, OfProperties, Breaks}
 use Rattle.wave_main.proofs.StageLaws.{none_broken, one_loop}
 
@@ -50,19 +53,29 @@ loop_missed held ws form old new status built long cause = elim cause [
 -- ---- the text of a command, or its refusal
 
 pub made_by : (held : Held) (ws : List (List ℕ)) (form : Form) (files : List (List ℕ)) (r : Result (Vec ℕ Global) Status) → IsBuilt ws form → AreFilesOf held ws files
-    → MatchResult r (λ text. AcceptAll (stages form) (inputs_of form files) × IsText form ws (inputs_of form files) text.items) (λ status. (status ≡ Memory) ⊎ IsRefusedBy (stages form) (inputs_of form files) status)
+    → MatchResult r (λ text. AcceptAll (stages form ws) (inputs_of form files) × IsText form ws (inputs_of form files) text.items) (λ status. (status ≡ Memory) ⊎ IsRefusedBy (stages form ws) (inputs_of form files) status)
     → IfOk r (λ text. IsMade held ws text.items)
 made_by held ws form files (Ok text) built are h = (files, are, (form, built, h.0, h.1))
 made_by held ws form files (Err status) built are h = tt
 
 pub missed_by : (held : Held) (ws : List (List ℕ)) (form : Form) (files : List (List ℕ)) (old new : List ℕ → ℕ) (r : Result (Vec ℕ Global) Status) → IsBuilt ws form → AreFilesOf held ws files
-    → MatchResult r (λ text. AcceptAll (stages form) (inputs_of form files) × IsText form ws (inputs_of form files) text.items) (λ status. (status ≡ Memory) ⊎ IsRefusedBy (stages form) (inputs_of form files) status)
+    → MatchResult r (λ text. AcceptAll (stages form ws) (inputs_of form files) × IsText form ws (inputs_of form files) text.items) (λ status. (status ≡ Memory) ⊎ IsRefusedBy (stages form ws) (inputs_of form files) status)
     → IfErr r (IsMissed held ws old new)
 missed_by held ws form files old new (Ok text) built are h = tt
 missed_by held ws form files old new (Err status) built are h = elim h [
   | inl want ↦ inl want
   | inr by ↦ inr (inr (files, are, inr (form, built, by)))
 ]
+
+-- a text of a work that is planned is one of the work of words
+pub printed_of : (ws : List (List ℕ)) (files : Inputs) (workers : ℕ) (text_of : Work → List Verdict → List ℕ) (text : List ℕ) → number (word_of ws 3) ≡ Some workers → HasText files workers text_of text → WorkPrints ws files text text_of
+printed_of ws files workers text_of text many (planned, is, printed) = record {
+  work = work_of planned workers;
+  is_work = record { input = is.input; passes = is.passes; workers = many; plan = is.plan };
+  verdicts = planned.verdicts;
+  are_verdicts = is.verdicts;
+  printed = printed;
+}
 
 -- ---- the input of a command
 

@@ -1,6 +1,9 @@
 -- Stages: each refuses files with one status, and so do all of them together.
 use Rattle.std.proofs.Common.{ℕ, ℤ, suc, ◌≡◌, ◌⊎◌, inl, inr, ◌+◌, List, [], ◌∷◌, ◌++◌, Option, Some, None, length, refl, sym, ◌∙◌, ap, subst, arith}
 use Rattle.std.specs.Prelude.{Result, Ok, Err}
+use Rattle.std.specs.List.{slice_get}
+use Rattle.std.proofs.lemmas.Bool.{cases_lt}
+use Rattle.std.proofs.lemmas.Option.{same_Some}
 use Rattle.std.specs.Option.{option_map}
 use Rattle.text_base.specs.Lines.{lines}
 use Rattle.mtx_read.specs.Files.{matrix, vector}
@@ -24,18 +27,22 @@ use Rattle.prop_check.specs.Broken.{FirstBroken}
 use Rattle.prop_check.proofs.Found.{fails}
 use Rattle.prop_check.proofs.Unique.{once}
 use Rattle.wave_main.specs.declared.status.Status.{Status}
-use Rattle.wave_main.specs.declared.status.Status.TheVariants.{Done, Usage, ReadFault, LoopLimit, Unbounded, Property, NotBuilt, WriteFault, Memory}
-use Rattle.wave_main.specs.Binding.{binding_fault, index_arrays, shape_status}
+use Rattle.wave_main.specs.declared.status.Status.TheVariants.{Done, Usage, ReadFault, LoopLimit, Unbounded, Shape, Property, NotBuilt, WriteFault, Memory}
+use Rattle.wave_main.specs.declared.status.ShapeKind.TheVariants.{Order}
+use Rattle.wave_main.specs.Binding.{array_vectors, array_word, binding_fault, data_arrays, index_arrays, shape_status}
 use Rattle.wave_main.specs.Bounds.{IsBoundsFault}
 use Rattle.wave_main.specs.Files.{Inputs}
 use Rattle.wave_main.specs.Loops.{IsLoop, IsLoopFault, loop_status}
 use Rattle.wave_main.specs.Matrices.{Parts, first_status, fault_of, matrix_status, matrix_fault, matrix_of, vectors_fault, vectors_of}
+use Rattle.wave_main.specs.Orders.{IsFirstOdd, order_of}
+use Rattle.wave_main.specs.Reading.{HasArrays, parts_of}
 use Rattle.wave_main.specs.Run.{IsInput}
+use Rattle.wave_main.specs.declared.input.ReadFiles.{ReadFiles}
 use Rattle.wave_main.specs.declared.input.Input.{Input}
 use Rattle.array_bind.specs.declared.bind.Bound.{Bound}
 use Rattle.array_bind.specs.Lists.{arrays_of, values_of, bound_of}
 use Rattle.loop_core.specs.declared.nest.Nest.{Nest}
-use Rattle.wave_main.specs.Stages.{Stage, OfLoop, OfBounds, OfMatrix, OfVectors, OfShapes, OfProperties, Strays, Misfits, Breaks, Calls, Accepts, AcceptAll, IsRefusedBy, array_stages, input_stages}
+use Rattle.wave_main.specs.Stages.{Stage, OfLoop, OfBounds, OfMatrix, OfVectors, OfShapes, OfOrder, OfProperties, Strays, Misfits, Disorders, Breaks, Calls, Accepts, AcceptAll, IsRefusedBy, array_stages}
 
 -- what files may be refused with: no other end of a call
 abbrev pub IsFault : Status → Type 0
@@ -106,7 +113,10 @@ stage_faulty OfLoop files status fault = loop_fault_faulty files.loop_file statu
 stage_faulty OfBounds files status (nest, loop, fault) = bounds_faulty nest status fault
 stage_faulty OfMatrix files status e = is_faulty _ status (read_faulty 2 (matrix files.matrix)) e
 stage_faulty OfVectors files status e = is_faulty _ status (vectors_faulty files.first files.vectors) e
-stage_faulty OfShapes files status (nest, loop, e) = is_faulty _ status (mapped_faulty (shape_status files.first) (shape_faulty files.first) _) e
+stage_faulty OfShapes files status (nest, loop, e) = is_faulty _ status (mapped_faulty (shape_status (array_word files)) (shape_faulty (array_word files)) _) e
+stage_faulty (OfOrder workers) files status (place, value, first, is) =
+    let P : Status → Type 0 = λ s. IsFault s in
+    let fine : IsFault (Shape (Order place value)) = tt in subst P (sym is) fine
 stage_faulty OfProperties files status (nest, property, first, second, loop, broken, is) =
     let P : Status → Type 0 = λ s. IsFault s in
     let fine : IsFault (Property property first second) = tt in subst P (sym is) fine
@@ -225,7 +235,7 @@ one_stray files a b (nest, loop, x) (other, also, y) =
 
 one_misfit : (files : Inputs) (a b : Status) → Misfits files a → Misfits files b → a ≡ b
 one_misfit files a b (nest, loop, x) (other, also, y) =
-    let P : Nest → Type 0 = λ n. binding_fault files.first n.decls (matrix_of files.matrix) (vectors_of files.vectors) ≡ Some b in
+    let P : Nest → Type 0 = λ n. binding_fault (array_word files) n.decls (matrix_of files.matrix) (array_vectors files) ≡ Some b in
     one_some _ a b x (subst P (one_loop files.loop_file other nest also loop) y)
 
 one_break : (files : Inputs) (a b : Status) → Breaks files a → Breaks files b → a ≡ b
@@ -234,12 +244,30 @@ one_break files a b (nest, p, f, s, loop, x, is) (other, q, g, t, again, y, also
     let same = one_broken nest.props (index_arrays nest.decls files) p f s q g t x (subst P (one_loop files.loop_file other nest again loop) y) in
     is ∙ ap (λ n. Property n f s) same.0 ∙ ap (λ n. Property q n s) same.1 ∙ ap (λ n. Property q g n) same.2 ∙ sym also
 
+-- the first entry of an order that is no worker's number
+one_odd : (workers : ℕ) (entries : List ℤ) (p q : ℕ) (v w : ℤ) → IsFirstOdd workers entries p v → IsFirstOdd workers entries q w → (p ≡ q) × (v ≡ w)
+one_odd workers entries p q v w x y =
+    let same : p ≡ q = elim (cases_lt p q) [
+      | inl lt ↦ absurd (x.odd (y.earlier p v lt x.there))
+      | inr ge ↦ elim (cases_lt q p) [
+        | inl lt ↦ absurd (y.odd (x.earlier q w lt y.there))
+        | inr le ↦ omega (arith, ge, le)
+      ]
+    ] in
+    (same, same_Some v w (sym x.there ∙ ap (λ n. slice_get entries n) same ∙ y.there))
+
+one_disorder : (workers : ℕ) (files : Inputs) (a b : Status) → Disorders workers files a → Disorders workers files b → a ≡ b
+one_disorder workers files a b (p, v, first, is) (q, w, other, also) =
+    let same = one_odd workers (order_of (vectors_of files.vectors)) p q v w first other in
+    is ∙ ap (λ n. Shape (Order n v)) same.0 ∙ ap (λ x. Shape (Order q x)) same.1 ∙ sym also
+
 pub one_call : (stage : Stage) (files : Inputs) (a b : Status) → Calls stage files a → Calls stage files b → a ≡ b
 one_call OfLoop files a b x y = one_loop_fault files.loop_file a b x y
 one_call OfBounds files a b x y = one_stray files a b x y
 one_call OfMatrix files a b x y = one_some _ a b x y
 one_call OfVectors files a b x y = one_some _ a b x y
 one_call OfShapes files a b x y = one_misfit files a b x y
+one_call (OfOrder workers) files a b x y = one_disorder workers files a b x y
 one_call OfProperties files a b x y = one_break files a b x y
 
 pub one_by_stages : (stages : List Stage) (files : Inputs) (a b : Status) → IsRefusedBy stages files a → IsRefusedBy stages files b → a ≡ b
@@ -262,6 +290,33 @@ none_by_stages (stage ∷ later) files status (first, rest) x = elim x [
   | inr other ↦ none_by_stages later files status rest other.1
 ]
 
+-- ---- some stages before others
+
+pub refused_early : (stages more : List Stage) (files : Inputs) (status : Status) → IsRefusedBy stages files status → IsRefusedBy (stages ++ more) files status
+refused_early [] more files status x = absurd x
+refused_early (stage ∷ later) more files status x = elim x [
+  | inl here ↦ inl here
+  | inr rest ↦ inr (rest.0, refused_early later more files status rest.1)
+]
+
+pub refused_late : (stages more : List Stage) (files : Inputs) (status : Status) → AcceptAll stages files → IsRefusedBy more files status → IsRefusedBy (stages ++ more) files status
+refused_late [] more files status all x = x
+refused_late (stage ∷ later) more files status (first, rest) x = inr (first, refused_late later more files status rest x)
+
+pub accept_both : (stages more : List Stage) (files : Inputs) → AcceptAll stages files → AcceptAll more files → AcceptAll (stages ++ more) files
+accept_both [] more files all others = others
+accept_both (stage ∷ later) more files (first, rest) others = (first, accept_both later more files rest others)
+
+-- out of memory, or refused at some stages
+abbrev pub StoppedBy : List Stage → Inputs → Status → Type 0
+StoppedBy stages files status = (status ≡ Memory) ⊎ IsRefusedBy stages files status
+
+pub stopped_early : (stages more : List Stage) (files : Inputs) (status : Status) → StoppedBy stages files status → StoppedBy (stages ++ more) files status
+stopped_early stages more files status cause = elim cause [ inl want ↦ inl want | inr by ↦ inr (refused_early stages more files status by) ]
+
+pub stopped_late : (stages more : List Stage) (files : Inputs) (status : Status) → AcceptAll stages files → StoppedBy more files status → StoppedBy (stages ++ more) files status
+stopped_late stages more files status all cause = elim cause [ inl want ↦ inl want | inr by ↦ inr (refused_late stages more files status all by) ]
+
 -- ---- the stages of files that are read one after another
 
 pub none_some : (o : Option Status) (a : Status) → o ≡ None → ¬ (o ≡ Some a)
@@ -279,12 +334,8 @@ accepted_loop files read nest loop (same, accepted) =
     let there : IsAcceptedLoop files read = record { is = loop; accepted = accepted } in
     subst P (sym same) there
 
--- the stages before the shapes, of files that are read
-abbrev pub AreRead : Inputs → Nest → ℕ → Type 0
-AreRead files nest first = IsAcceptedLoop files nest × (matrix_fault files.matrix ≡ None) × (files.first ≡ first) × (vectors_fault first files.vectors ≡ None)
-
-abbrev pub Stopped : Inputs → Status → Type 0
-Stopped files status = (status ≡ Memory) ⊎ IsRefusedBy input_stages files status
+abbrev Stopped : Inputs → Status → Type 0
+Stopped files status = StoppedBy array_stages files status
 
 pub bounds_stop : (files : Inputs) (nest : Nest) (status : Status) → IsLoop files.loop_file nest → (status ≡ Memory) ⊎ IsBoundsFault nest status → Stopped files status
 bounds_stop files nest status loop cause = elim cause [ inl want ↦ inl want | inr fault ↦ inr (inr (loop_accepted files nest loop, inl (nest, loop, fault))) ]
@@ -307,53 +358,46 @@ vectors_stop files nest first status loop none at cause = elim cause [
   | inr fault ↦ inr (inr (loop_accepted files nest loop.is, inr (bounds_accepted files nest loop, inr (matrix_accepted files none, inl (ap (λ n. vectors_fault n files.vectors) at ∙ fault)))))
 ]
 
-vectors_accepted : (files : Inputs) (first : ℕ) → files.first ≡ first → vectors_fault first files.vectors ≡ None → Accepts OfVectors files
-vectors_accepted files first at none status fault = none_some _ status (ap (λ n. vectors_fault n files.vectors) at ∙ none) fault
+vectors_accepted : (files : Inputs) → vectors_fault files.first files.vectors ≡ None → Accepts OfVectors files
+vectors_accepted files none status fault = none_some _ status none fault
 
 -- the refusal of the shapes is that of files which are read
-left_shapes : (files : Inputs) (nest : Nest) (m : Parts) (vs : List (List ℤ)) (first : ℕ) → matrix_of files.matrix ≡ m → files.first ≡ first → vs ≡ vectors_of files.vectors
-    → binding_fault files.first nest.decls (matrix_of files.matrix) (vectors_of files.vectors) ≡ binding_fault first nest.decls m vs
-left_shapes files nest m vs first m_is at vs_is =
-    ap (λ n. binding_fault n nest.decls (matrix_of files.matrix) (vectors_of files.vectors)) at
-    ∙ ap (λ (x : Parts). binding_fault first nest.decls x (vectors_of files.vectors)) m_is
-    ∙ ap (λ (x : List (List ℤ)). binding_fault first nest.decls m x) (sym vs_is)
+left_shapes : (files : Inputs) (nest : Nest) (m : Parts) (vs : List (List ℤ)) (word : ℕ) → matrix_of files.matrix ≡ m → array_word files ≡ word → vs ≡ array_vectors files
+    → binding_fault (array_word files) nest.decls (matrix_of files.matrix) (array_vectors files) ≡ binding_fault word nest.decls m vs
+left_shapes files nest m vs word m_is at vs_is =
+    ap (λ n. binding_fault n nest.decls (matrix_of files.matrix) (array_vectors files)) at
+    ∙ ap (λ (x : Parts). binding_fault word nest.decls x (array_vectors files)) m_is
+    ∙ ap (λ (x : List (List ℤ)). binding_fault word nest.decls m x) (sym vs_is)
 
-pub shapes_stop : (files : Inputs) (nest : Nest) (m : Parts) (vs : List (List ℤ)) (first : ℕ) (status : Status) → AreRead files nest first → matrix_of files.matrix ≡ m → vs ≡ vectors_of files.vectors
-    → (status ≡ Memory) ⊎ (binding_fault first nest.decls m vs ≡ Some status) → Stopped files status
-shapes_stop files nest m vs first status (loop, none, at, no_fault) m_is vs_is cause = elim cause [
-  | inl want ↦ inl want
-  | inr fault ↦
-      let misfit : Misfits files status = (nest, loop.is, left_shapes files nest m vs first m_is at vs_is ∙ fault) in
-      inr (inr (loop_accepted files nest loop.is, inr (bounds_accepted files nest loop, inr (matrix_accepted files none, inr (vectors_accepted files first at no_fault, inl misfit)))))
-]
+module _ (files : Inputs) (read : ReadFiles) (word : ℕ) (has : HasArrays files read word) where
+  loop : IsAcceptedLoop files read.nest
+  loop = record { is = has.good.is_loop; accepted = has.good.accepted }
 
-shapes_accepted : (files : Inputs) (nest : Nest) → IsLoop files.loop_file nest → binding_fault files.first nest.decls (matrix_of files.matrix) (vectors_of files.vectors) ≡ None → Accepts OfShapes files
-shapes_accepted files nest loop none status (other, also, fault) =
-    let P : Nest → Type 0 = λ n. binding_fault files.first n.decls (matrix_of files.matrix) (vectors_of files.vectors) ≡ Some status in
-    none_some _ status none (subst P (one_loop files.loop_file other nest also loop) fault)
+  fits : binding_fault (array_word files) read.nest.decls (matrix_of files.matrix) (array_vectors files) ≡ binding_fault word read.nest.decls (parts_of read) read.vectors.items
+  fits = left_shapes files read.nest (parts_of read) read.vectors.items word has.good.matrix_is has.named has.vectors_are
 
-pub bound_files : (files : Inputs) (input : Input) (m : Parts) (vs : List (List ℤ)) (bound : Bound) (first : ℕ) → AreRead files input.nest first → matrix_of files.matrix ≡ m → vs ≡ vectors_of files.vectors
-    → binding_fault first input.nest.decls m vs ≡ None → bound ≡ bound_of input.nest.decls m.0 m.2 vs
-    → input.arrays ≡ bound.arrays → input.values ≡ bound.values → IsInput files input × AcceptAll array_stages files
-bound_files files input m vs bound first (loop, matrix_none, at, vectors_none) m_is vs_is none bound_is arrays values =
-    let d = input.nest.decls in
-    let fits = left_shapes files input.nest m vs first m_is at vs_is ∙ none in (
-      record {
-        is_loop = loop.is;
-        accepted = loop.accepted;
-        arrays = arrays ∙ ap (λ (b : Bound). b.arrays) bound_is ∙ ap (λ (x : List (List ℤ)). arrays_of d m.0 m.2 x) vs_is ∙ ap (λ (x : Parts). arrays_of d x.0 x.2 (vectors_of files.vectors)) (sym m_is);
-        values = values ∙ ap (λ (b : Bound). b.values) bound_is ∙ ap (λ (x : List (List ℤ)). values_of d m.0 m.2 x) vs_is ∙ ap (λ (x : Parts). values_of d x.0 x.2 (vectors_of files.vectors)) (sym m_is);
-      },
-      (loop_accepted files input.nest loop.is, (bounds_accepted files input.nest loop, (matrix_accepted files matrix_none, (vectors_accepted files first at vectors_none, (shapes_accepted files input.nest loop.is fits, tt))))),
-    )
+  pub shapes_stop : (status : Status) → (status ≡ Memory) ⊎ (binding_fault word read.nest.decls (parts_of read) read.vectors.items ≡ Some status) → Stopped files status
+  shapes_stop status cause = elim cause [
+    | inl want ↦ inl want
+    | inr fault ↦
+        let misfit : Misfits files status = (read.nest, has.good.is_loop, fits ∙ fault) in
+        inr (inr (loop_accepted files read.nest loop.is, inr (bounds_accepted files read.nest loop, inr (matrix_accepted files has.good.matrix_fine, inr (vectors_accepted files has.good.vectors_fine, inl misfit)))))
+  ]
 
--- ---- the properties, after all that
+  shapes_accepted : binding_fault word read.nest.decls (parts_of read) read.vectors.items ≡ None → Accepts OfShapes files
+  shapes_accepted none status (other, also, fault) =
+      let P : Nest → Type 0 = λ n. binding_fault (array_word files) n.decls (matrix_of files.matrix) (array_vectors files) ≡ Some status in
+      none_some _ status (fits ∙ none) (subst P (one_loop files.loop_file other read.nest also loop.is) fault)
 
-by_property : (files : Inputs) (status : Status) → AcceptAll array_stages files → Breaks files status → IsRefusedBy input_stages files status
-by_property files status (l, (b, (m, (v, (s, none))))) broken = inr (l, inr (b, inr (m, inr (v, inr (s, inl broken)))))
-
-pub property_stops : (files : Inputs) (status : Status) → AcceptAll array_stages files → (status ≡ Memory) ⊎ Breaks files status → Stopped files status
-property_stops files status all cause = elim cause [ inl want ↦ inl want | inr broken ↦ inr (by_property files status all broken) ]
-
-pub all_accept : (files : Inputs) → AcceptAll array_stages files → Accepts OfProperties files → AcceptAll input_stages files
-all_accept files (l, (b, (m, (v, (s, none))))) passed = (l, (b, (m, (v, (s, (passed, tt))))))
+  pub bound_files : (input : Input) (bound : Bound) → binding_fault word read.nest.decls (parts_of read) read.vectors.items ≡ None → bound ≡ bound_of read.nest.decls read.matrix.rows read.matrix.entries read.vectors.items
+      → input.nest ≡ read.nest → input.arrays ≡ bound.arrays → input.values ≡ bound.values → IsInput files input × AcceptAll array_stages files
+  bound_files input bound none bound_is nest arrays values =
+      let d = read.nest.decls in
+      let m = parts_of read in
+      let same_arrays : input.arrays ≡ index_arrays d files = arrays ∙ ap (λ (b : Bound). b.arrays) bound_is ∙ ap (λ (x : List (List ℤ)). arrays_of d m.0 m.2 x) has.vectors_are ∙ ap (λ (x : Parts). arrays_of d x.0 x.2 (array_vectors files)) (sym has.good.matrix_is) in
+      let same_values : input.values ≡ data_arrays d files = values ∙ ap (λ (b : Bound). b.values) bound_is ∙ ap (λ (x : List (List ℤ)). values_of d m.0 m.2 x) has.vectors_are ∙ ap (λ (x : Parts). values_of d x.0 x.2 (array_vectors files)) (sym has.good.matrix_is) in
+      let Of : Nest → Type 0 = λ n. IsInput files (record { nest = n; arrays = input.arrays; values = input.values }) in
+      let there : Of read.nest = record { is_loop = loop.is; accepted = loop.accepted; arrays = same_arrays; values = same_values } in (
+        subst Of (sym nest) there,
+        (loop_accepted files read.nest loop.is, (bounds_accepted files read.nest loop, (matrix_accepted files has.good.matrix_fine, (vectors_accepted files has.good.vectors_fine, (shapes_accepted none, tt))))),
+      )

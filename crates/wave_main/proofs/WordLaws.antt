@@ -1,17 +1,18 @@
 -- The command that words ask for.
 use Rattle.std.proofs.Common.{ℕ, ◌≡◌, inl, inr, ◌≤◌, Bool, true, false, ◌&&◌, if◌then◌else◌, List, [], ◌∷◌, Option, Some, None, length, refl, sym, ◌∙◌, ap, subst, arith}
-use Rattle.std.specs.Prelude.{codes}
+use Rattle.std.specs.Prelude.{codes, nat_le}
+use Rattle.std.proofs.lemmas.Bool.Decides.{nat_tests}
 use Rattle.std.specs.Str.{bytes_eq}
 use Rattle.std.proofs.lemmas.Slice.Eq.{bytes_eq-Decides}
 use Rattle.wave_words.specs.declared.slot.Slot.TheVariants as slots
 use Rattle.wave_words.specs.declared.form.Form.{Form}
 use Rattle.wave_words.specs.declared.form.Form.TheVariants as forms
-use Rattle.wave_words.specs.Forms.{fits, has_form, number}
+use Rattle.wave_words.specs.Forms.{fits, has_form, is_whole, lies_between, number}
 use Rattle.wave_words.specs.Words.{asked, IsUsageAt}
 use Rattle.wave_words.proofs.WordLaws.{some_asked, asked_has}
 use Rattle.wave_main.specs.declared.status.Status.{Status}
 use Rattle.wave_main.specs.declared.status.Status.TheVariants.{Usage, NotBuilt}
-use Rattle.wave_main.specs.Commands.{all_forms, unbuilt_word, IsBuilt, RefusesWords}
+use Rattle.wave_main.specs.Commands.{all_forms, unbuilt_word, AskForWorkers, IsBuilt, RefusesWords}
 use Rattle.wave_main.specs.Files.{word_of}
 
 pub same_form : (o : Option Form) (f g : Form) → o ≡ Some f → o ≡ Some g → g ≡ f
@@ -56,6 +57,10 @@ one_word ws a b x y = elim x [
 
 -- ---- the number of words
 
+first_true : (a b : Bool) → (a && b) ≡ true → a ≡ true
+first_true true b p = refl
+first_true false b p = absurd cc
+
 second_true : (a b : Bool) → (a && b) ≡ true → b ≡ true
 second_true true b p = p
 second_true false b p = absurd cc
@@ -66,6 +71,21 @@ long_run (a ∷ []) run = absurd (let e = second_true (fits slots.Run a) false r
 long_run (a ∷ b ∷ []) run = absurd (let e = second_true (fits slots.Run a) false run in cc)
 long_run (a ∷ b ∷ c ∷ []) run = absurd (let e = second_true (fits slots.Run a) false run in cc)
 long_run (a ∷ b ∷ c ∷ d ∷ ws) run = omega arith
+
+long_plan : (ws : List (List ℕ)) → has_form ws forms.Plan ≡ true → 4 ≤ length ws
+long_plan [] plan = absurd cc
+long_plan (a ∷ []) plan = absurd (let e = second_true (fits slots.Plan a) false plan in cc)
+long_plan (a ∷ b ∷ []) plan = absurd (let e = second_true (fits slots.Plan a) false plan in cc)
+long_plan (a ∷ b ∷ c ∷ []) plan = absurd (let e = second_true (fits slots.Plan a) false plan in cc)
+long_plan (a ∷ b ∷ c ∷ d ∷ ws) plan = omega arith
+
+long_replay : (ws : List (List ℕ)) → has_form ws forms.Replay ≡ true → 5 ≤ length ws
+long_replay [] replay = absurd cc
+long_replay (a ∷ []) replay = absurd (let e = second_true (fits slots.Replay a) false replay in cc)
+long_replay (a ∷ b ∷ []) replay = absurd (let e = second_true (fits slots.Replay a) false replay in cc)
+long_replay (a ∷ b ∷ c ∷ []) replay = absurd (let e = second_true (fits slots.Replay a) false replay in cc)
+long_replay (a ∷ b ∷ c ∷ d ∷ []) replay = absurd (let e = second_true (fits slots.Replay a) (fits slots.Workers d && false) replay in let f = second_true (fits slots.Workers d) false e in cc)
+long_replay (a ∷ b ∷ c ∷ d ∷ f ∷ ws) replay = omega arith
 
 long_check : (ws : List (List ℕ)) → has_form ws forms.Check ≡ true → 3 ≤ length ws
 long_check [] check = absurd cc
@@ -88,6 +108,12 @@ two_shown (a ∷ b ∷ c ∷ ws) show = absurd (let e = second_true (fits slots.
 pub run_length : (ws : List (List ℕ)) → IsBuilt ws forms.Run → 4 ≤ length ws
 run_length ws built = long_run ws (asked_has all_forms ws forms.Run built.asked)
 
+pub plan_length : (ws : List (List ℕ)) → IsBuilt ws forms.Plan → 4 ≤ length ws
+plan_length ws built = long_plan ws (asked_has all_forms ws forms.Plan built.asked)
+
+pub replay_length : (ws : List (List ℕ)) → IsBuilt ws forms.Replay → 5 ≤ length ws
+replay_length ws built = long_replay ws (asked_has all_forms ws forms.Replay built.asked)
+
 pub check_length : (ws : List (List ℕ)) → IsBuilt ws forms.Check → 3 ≤ length ws
 check_length ws built = long_check ws (asked_has all_forms ws forms.Check built.asked)
 
@@ -107,6 +133,38 @@ pub one_worker : (ws : List (List ℕ)) → IsBuilt ws forms.Run → number (wor
 one_worker ws built =
     let one : word_of ws 3 ≡ codes "1" = (bytes_eq-Decides (word_of ws 3) (codes "1")).0 (one_by (bytes_eq (word_of ws 3) (codes "1")) 3 built.whole) in
     ap number one
+
+-- the workers of words are a number from 1 to 64
+abbrev AreWorkers : List ℕ → Type 0
+AreWorkers word = (many : ℕ) × (number word ≡ Some many) × (1 ≤ many) × (many ≤ 64)
+
+some_between : (o : Option ℕ) → lies_between 1 64 o ≡ true → (many : ℕ) × (o ≡ Some many) × (1 ≤ many) × (many ≤ 64)
+some_between None e = absurd cc
+some_between (Some n) e =
+    let low = first_true (nat_le 1 n) (nat_le n 64) e in
+    let high = second_true (nat_le 1 n) (nat_le n 64) e in
+    (n, refl, (grind (arith, nat_tests, low)), (grind (arith, nat_tests, high)))
+
+planned_by : (ws : List (List ℕ)) → has_form ws forms.Plan ≡ true → AreWorkers (word_of ws 3)
+planned_by [] plan = absurd cc
+planned_by (a ∷ []) plan = absurd (let e = second_true (fits slots.Plan a) false plan in cc)
+planned_by (a ∷ b ∷ []) plan = absurd (let e = second_true (fits slots.Plan a) false plan in cc)
+planned_by (a ∷ b ∷ c ∷ []) plan = absurd (let e = second_true (fits slots.Plan a) false plan in cc)
+planned_by (a ∷ b ∷ c ∷ d ∷ ws) plan = some_between (number d) (first_true (fits slots.Workers d) (is_whole true [] ws) (second_true (fits slots.Plan a) (fits slots.Workers d && is_whole true [] ws) plan))
+
+pub plan_workers : (ws : List (List ℕ)) → IsBuilt ws forms.Plan → AskForWorkers ws
+plan_workers ws built = planned_by ws (asked_has all_forms ws forms.Plan built.asked)
+
+replayed_by : (ws : List (List ℕ)) → has_form ws forms.Replay ≡ true → AreWorkers (word_of ws 3)
+replayed_by [] replay = absurd cc
+replayed_by (a ∷ []) replay = absurd (let e = second_true (fits slots.Replay a) false replay in cc)
+replayed_by (a ∷ b ∷ []) replay = absurd (let e = second_true (fits slots.Replay a) false replay in cc)
+replayed_by (a ∷ b ∷ c ∷ []) replay = absurd (let e = second_true (fits slots.Replay a) false replay in cc)
+replayed_by (a ∷ b ∷ c ∷ d ∷ []) replay = absurd (let e = second_true (fits slots.Replay a) (fits slots.Workers d && false) replay in let f = second_true (fits slots.Workers d) false e in cc)
+replayed_by (a ∷ b ∷ c ∷ d ∷ f ∷ ws) replay = some_between (number d) (first_true (fits slots.Workers d) (is_whole true [] ws) (second_true (fits slots.Replay a) (fits slots.Workers d && is_whole true [] ws) replay))
+
+pub replay_workers : (ws : List (List ℕ)) → IsBuilt ws forms.Replay → AskForWorkers ws
+replay_workers ws built = replayed_by ws (asked_has all_forms ws forms.Replay built.asked)
 
 pub not_true : (b : Bool) → b ≡ false → b ≡ true → ⊥
 not_true true e t = cc

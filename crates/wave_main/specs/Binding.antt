@@ -1,5 +1,5 @@
 -- The arrays of a loop over a matrix and vectors.
-use Rattle.std.specs.Prelude.{ℕ, ◌+◌, ℤ, List, Option}
+use Rattle.std.specs.Prelude.{ℕ, ◌+◌, ℤ, List, Option, drop}
 use Rattle.std.specs.Option.{option_map}
 use Rattle.loop_core.specs.declared.decl.Decl.{Decl}
 use Rattle.loop_core.specs.Lists.{Lists}
@@ -23,9 +23,16 @@ shape_status first refusals.Memory = Memory
 abbrev pub binding_fault : ℕ → List Decl → Parts → List (List ℤ) → Option Status
 binding_fault first decls m vectors = option_map (shape_status first) (shape_fault decls m.0 m.1 m.2 vectors)
 
+-- the vectors of the loop's arrays, and the word that names the first of them
+abbrev pub array_vectors : Inputs → List (List ℤ)
+array_vectors files = drop files.skips (vectors_of files.vectors)
+
+abbrev pub array_word : Inputs → ℕ
+array_word files = files.first + files.skips
+
 -- the index arrays and the data arrays of declarations over the files
 abbrev pub index_arrays : List Decl → Inputs → Lists
-index_arrays decls files = arrays_of decls (matrix_of files.matrix).0 (matrix_of files.matrix).2 (vectors_of files.vectors)
+index_arrays decls files = arrays_of decls (matrix_of files.matrix).0 (matrix_of files.matrix).2 (array_vectors files)
 
 abbrev pub data_arrays : List Decl → Inputs → List (List ℤ)
-data_arrays decls files = values_of decls (matrix_of files.matrix).0 (matrix_of files.matrix).2 (vectors_of files.vectors)
+data_arrays decls files = values_of decls (matrix_of files.matrix).0 (matrix_of files.matrix).2 (array_vectors files)

@@ -3,14 +3,17 @@ use Rattle.std.specs.Prelude.{◌≡◌, ◌⊎◌, ℕ, ◌<◌, ◌≤◌, Lis
 use Rattle.std.specs.Str.{bytes_eq}
 use Rattle.wave_words.specs.declared.form.Form.{Form}
 use Rattle.wave_words.specs.declared.form.Form.TheVariants as forms
+use Rattle.wave_words.specs.Forms.{number}
 use Rattle.wave_words.specs.Words.{asked, IsUsageAt}
 use Rattle.wave_main.specs.declared.commands.Command.{Command}
 use Rattle.wave_main.specs.declared.commands.Command.TheVariants as commands
 use Rattle.wave_main.specs.declared.status.Status.{Status}
 use Rattle.wave_main.specs.declared.status.Status.TheVariants.{Usage, NotBuilt}
 use Rattle.wave_main.specs.Files.{Inputs, word_of}
-use Rattle.wave_main.specs.Run.{RunPrints}
-use Rattle.wave_main.specs.Stages.{Stage, OfLoop, OfBounds, AcceptAll, IsRefusedBy, input_stages}
+use Rattle.wave_main.specs.Run.{PlanPrints, RunPrints}
+use Rattle.wave_main.specs.Orders.{workers_in}
+use Rattle.wave_main.specs.Replay.{ReplayPrints}
+use Rattle.wave_main.specs.Stages.{Stage, OfLoop, OfBounds, AcceptAll, IsRefusedBy, input_stages, replay_stages}
 use Rattle.wave_main.specs.Texts.{CheckPrints, ExplainPrints, ShowPrints}
 
 abbrev pub all_forms : List Form
@@ -19,28 +22,41 @@ all_forms = forms.Run ∷ forms.DemoGrid ∷ forms.DemoLower ∷ forms.Plan ∷ 
 -- the place of the word that asks for what isn't built yet: so far a run has one worker
 abbrev pub unbuilt_word : Form → List (List ℕ) → Option ℕ
 unbuilt_word forms.Run words = if bytes_eq (word_of words 3) (codes "1") then None else Some 3
+unbuilt_word forms.Plan words = None
+unbuilt_word forms.Replay words = None
 unbuilt_word forms.Check words = None
 unbuilt_word forms.Explain words = None
 unbuilt_word forms.Show words = None
 unbuilt_word _ words = Some 0
 
--- the place of the first FILE; the words before it that name files are 1, the loop, and 2, the matrix
+-- the place of the first word that names a vector; the words before it that name files are 1, the loop, and 2, the matrix
 abbrev pub first_file : Form → ℕ
 first_file forms.Run = 4
+first_file forms.Plan = 4
+first_file forms.Replay = 4
 first_file forms.Check = 3
 first_file _ = 2
 
+-- the vectors that are none of the loop's arrays: a replay's order
+abbrev pub skipped : Form → ℕ
+skipped forms.Replay = 1
+skipped _ = 0
+
 -- the stages at which the files of the command may be refused
-abbrev pub stages : Form → List Stage
-stages forms.Run = input_stages
-stages forms.Check = input_stages
-stages forms.Explain = OfLoop ∷ OfBounds ∷ []
-stages forms.Show = OfLoop ∷ []
-stages _ = []
+abbrev pub stages : Form → List (List ℕ) → List Stage
+stages forms.Run words = input_stages
+stages forms.Plan words = input_stages
+stages forms.Replay words = replay_stages (workers_in words)
+stages forms.Check words = input_stages
+stages forms.Explain words = OfLoop ∷ OfBounds ∷ []
+stages forms.Show words = OfLoop ∷ []
+stages _ words = []
 
 -- what the command prints of these words and files
 abbrev pub IsText : Form → List (List ℕ) → Inputs → List ℕ → Type 0
 IsText forms.Run words files text = RunPrints words files text
+IsText forms.Plan words files text = PlanPrints words files text
+IsText forms.Replay words files text = ReplayPrints words files text
 IsText forms.Check words files text = CheckPrints files text
 IsText forms.Explain words files text = ExplainPrints files text
 IsText forms.Show words files text = ShowPrints files text
@@ -54,12 +70,16 @@ pub record IsBuilt (words : List (List ℕ)) (form : Form) : Type 0 where
 -- the form of a command that was read from words, and the places that it carries
 abbrev pub form_of : Command → Form
 form_of (commands.Run first) = forms.Run
+form_of (commands.Plan first) = forms.Plan
+form_of (commands.Replay first) = forms.Replay
 form_of (commands.Check first) = forms.Check
 form_of commands.Explain = forms.Explain
 form_of commands.Show = forms.Show
 
 abbrev pub HasPlaces : Command → Type 0
 HasPlaces (commands.Run first) = first ≡ first_file forms.Run
+HasPlaces (commands.Plan first) = first ≡ first_file forms.Plan
+HasPlaces (commands.Replay first) = first ≡ first_file forms.Replay
 HasPlaces (commands.Check first) = first ≡ first_file forms.Check
 HasPlaces commands.Explain = Unit {0}
 HasPlaces commands.Show = Unit {0}
@@ -75,6 +95,7 @@ inputs_of form files = record {
   matrix = word_of files 2;
   vectors = drop (first_file form) files;
   first = first_file form;
+  skips = skipped form;
 }
 
 -- the places of the words that name files
@@ -85,7 +106,7 @@ IsFilePlace words place =
 -- the words of a command with these files, one list for each word, and the text that it prints
 abbrev pub Prints : List (List ℕ) → List (List ℕ) → List ℕ → Type 0
 Prints words files text =
-    (form : Form) × IsBuilt words form × AcceptAll (stages form) (inputs_of form files) × IsText form words (inputs_of form files) text
+    (form : Form) × IsBuilt words form × AcceptAll (stages form words) (inputs_of form files) × IsText form words (inputs_of form files) text
 
 -- words that are no command's, or ask for what isn't built yet
 abbrev pub RefusesWords : List (List ℕ) → Status → Type 0
@@ -100,7 +121,11 @@ AreRefused words = (status : Status) × RefusesWords words status
 abbrev pub Refuses : List (List ℕ) → List (List ℕ) → Status → Type 0
 Refuses words files status =
     RefusesWords words status
-    ⊎ ((form : Form) × IsBuilt words form × IsRefusedBy (stages form) (inputs_of form files) status)
+    ⊎ ((form : Form) × IsBuilt words form × IsRefusedBy (stages form words) (inputs_of form files) status)
+
+-- the words ask for 1 to 64 workers
+abbrev pub AskForWorkers : List (List ℕ) → Type 0
+AskForWorkers words = (many : ℕ) × (number (word_of words 3) ≡ Some many) × (1 ≤ many) × (many ≤ 64)
 
 -- the first word is this one
 abbrev pub Begins : List (List ℕ) → List ℕ → Type 0

@@ -28,4 +28,4 @@ pub record IsInputFetched (held : List ℕ → Option (List ℕ)) (words : List 
   pub loop_may : MayBe (held (word_of words 1)) (word_of files 1)
   pub matrix_may : MayBe (held (word_of words 2)) (word_of files 2)
   pub vectors_may : MayBeAll held (drop first words) (drop first files)
-  pub are : AreInputs (record { loop_file = word_of files 1; matrix = word_of files 2; vectors = drop first files; first = first }) got
+  pub are : AreInputs (record { loop_file = word_of files 1; matrix = word_of files 2; vectors = drop first files; first = first; skips = 0 }) got

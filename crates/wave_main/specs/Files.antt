@@ -29,12 +29,14 @@ MayBeAll held _ _ = ⊥
 abbrev pub AreOfFiles : (List ℕ → Option (List ℕ)) → List (List ℕ) → List (Option (Vec ℕ Global)) → Type 0
 AreOfFiles held names fetched = (files : List (List ℕ)) × MayBeAll held names files × AreFetched (2 ^ 28) files fetched
 
--- the files of a command by what they are, and the place of the word that names the first vector
+-- the files of a command by what they are, the place of the word that names the first vector, and how many vectors
+-- stand before those of the loop's arrays
 pub record Inputs : Type 0 where
   pub loop_file : List ℕ
   pub matrix : List ℕ
   pub vectors : List (List ℕ)
   pub first : ℕ
+  pub skips : ℕ
 
 -- the word at a place, and the bytes of the file that it names
 abbrev pub word_of : List (List ℕ) → ℕ → List ℕ

@@ -1,5 +1,6 @@
 -- The numbers and the fault lines of the ends of a call.
 use Rattle.std.specs.Prelude.{ℕ, List, [], ◌∷◌, ◌++◌, codes, decimal}
+use Rattle.std.specs.Fmt.{signed_decimal}
 use Rattle.loop_syntax.specs.declared.refusal.NameKind.{NameKind}
 use Rattle.loop_syntax.specs.declared.refusal.NameKind.TheVariants.{Unknown, Twice, WrongKind, WrittenIndex}
 use Rattle.loop_syntax.specs.declared.refusal.LimitKind.{LimitKind}
@@ -91,6 +92,7 @@ matrix_words word (faults.Big what value) = codes "matrix" ∷ codes "word" ∷ 
 abbrev pub shape_words : ShapeKind → List (List ℕ)
 shape_words (shapes.NotSquare rows columns) = codes "shape" ∷ codes "rows" ∷ decimal rows ∷ codes "columns" ∷ decimal columns ∷ []
 shape_words (shapes.Files have want) = codes "shape" ∷ codes "files" ∷ codes "have" ∷ decimal have ∷ codes "want" ∷ decimal want ∷ []
+shape_words (shapes.Order place value) = codes "shape" ∷ codes "order" ∷ codes "place" ∷ decimal place ∷ codes "value" ∷ signed_decimal value ∷ []
 shape_words (shapes.Length word have want) = codes "shape" ∷ codes "length" ∷ codes "word" ∷ decimal word ∷ codes "have" ∷ decimal have ∷ codes "want" ∷ decimal want ∷ []
 
 -- the words of the line that says why a call ended; none after Done

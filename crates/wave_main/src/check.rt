@@ -33,7 +33,7 @@ fn passed_text(alloc: Global, count: usize) -> Result<Vec<u8>, Memory>
 /// files.
 fn check_text(alloc: Global, files: InputBytes, first: u32) -> Result<Vec<u8>, Status>
     requires { first + length files.vectors.items < 2 ^ 32 }
-    ensures { (inputs : Inputs) → AreInputs inputs files → inputs.first ≡ first
+    ensures { (inputs : Inputs) → AreInputs inputs files → inputs.first ≡ first → inputs.skips ≡ 0
         → MatchResult result (λ text. CheckPrints inputs text.items × AcceptAll input_stages inputs) (λ status. (status ≡ Status.Memory) ⊎ IsRefusedBy input_stages inputs status) }
 {
     let input = input_of(alloc, files, first)?;

@@ -8,20 +8,24 @@ ghost use Rattle.wave_main.specs.Making.{IsMade, IsMissed};
 
 use crate::check::make_check;
 use crate::explain::make_explain;
+use crate::plan::make_plan;
+use crate::replay::make_replay;
 use crate::run::make_run;
 use crate::show::make_show;
 use crate::status::Status;
 use crate::words::word_at;
-use std::alloc::Global;
+use std::thread::Threads;
 use wave_io::library::Library;
 use wave_words::form::Form;
 use wave_words::usage::usage;
 
-/// A command that is built. `first` is the place of the first FILE among its words; 1 and 2 are the
+/// A command that is built. `first` is the place of the first vector among its words; 1 and 2 are the
 /// places of the loop and of the matrix.
 #[derive(Clone, Copy, Debug, PartialEq, Eq)]
 pub enum Command {
     Run { first: u32 },
+    Plan { first: u32 },
+    Replay { first: u32 },
     Check { first: u32 },
     Explain,
     Show,
@@ -49,10 +53,12 @@ fn built(form: Form, words: &[String]) -> Result<Command, u32>
 {
     match form {
         Form::Run => run(words),
+        Form::Plan => Ok(Command::Plan { first: 4 }),
+        Form::Replay => Ok(Command::Replay { first: 4 }),
         Form::Check => Ok(Command::Check { first: 3 }),
         Form::Explain => Ok(Command::Explain),
         Form::Show => Ok(Command::Show),
-        Form::DemoGrid | Form::DemoLower | Form::Plan | Form::Replay => Err(0),
+        Form::DemoGrid | Form::DemoLower => Err(0),
     }
 }
 
@@ -89,8 +95,8 @@ pub fn built_command(words: &[String]) -> Result<Command, Status>
 }
 
 /// The whole text that a command prints, or why it prints none.
-pub fn make_text<L: Library>(
-    alloc: Global,
+pub fn make_text<R: AllocGlobal + Threads + Sync, L: Library>(
+    rt: &R,
     lib: &mut L,
     words: &[String],
     command: Command,
@@ -103,9 +109,11 @@ pub fn make_text<L: Library>(
     ensures stays { (other : List ℕ) → L.held lib.new other ≡ L.held lib.old other }
 {
     match command {
-        Command::Run { first } => make_run(alloc, lib, words, first),
-        Command::Check { first } => make_check(alloc, lib, words, first),
-        Command::Explain => make_explain(alloc, lib, words),
-        Command::Show => make_show(alloc, lib, words),
+        Command::Run { first } => make_run(rt, lib, words, first),
+        Command::Plan { first } => make_plan(rt, lib, words, first),
+        Command::Replay { first } => make_replay(rt, lib, words, first),
+        Command::Check { first } => make_check(rt.alloc(), lib, words, first),
+        Command::Explain => make_explain(rt.alloc(), lib, words),
+        Command::Show => make_show(rt.alloc(), lib, words),
     }
 }

@@ -123,6 +123,17 @@ fn length_line(word: u32, have: u64, want: u64) -> ArrayString<ROOM>
     ])
 }
 
+fn order_line(place: u64, value: i64) -> ArrayString<ROOM>
+    ensures { result.bytes ≡ spaced (shape_words (ShapeKind.Order place value)) }
+{
+    line_of(&[
+        Piece::Text("shape order place"),
+        Piece::Number(place),
+        Piece::Text("value"),
+        Piece::Signed(value),
+    ])
+}
+
 /// The line of a file that is no matrix or vector.
 fn matrix_line(word: u32, cause: MtxFault) -> ArrayString<ROOM>
     ensures { result.bytes ≡ spaced (matrix_words word cause) }
@@ -150,6 +161,7 @@ fn shape_line(kind: ShapeKind) -> ArrayString<ROOM>
             two("shape files have", have as u64, "want", want as u64)
         }
         ShapeKind::Length { word, have, want } => length_line(word, have, want),
+        ShapeKind::Order { place, value } => order_line(place, value),
     }
 }
 

@@ -83,7 +83,7 @@ pub fn fetch_inputs<L: Library>(
     requires within { first ≤ length words.now }
     requires few { length words.now < 2 ^ 32 }
     ensures fetched { IfOk result (λ got. (files : List (List ℕ)) × IsInputFetched (L.held lib.old) (texts words.now) first files got) }
-    ensures few { IfOk result (λ got. first + length got.vectors.items < 2 ^ 32) }
+    ensures count { IfOk result (λ got. first + length got.vectors.items ≡ length words.now) }
     ensures fault { IfErr result (λ status. (status ≡ Status.Memory) ⊎ IsInputFault first (texts words.now) (L.faults lib.old) (L.faults lib.new) status) }
     ensures never_fall { (other : List ℕ) → L.faults lib.old other ≤ L.faults lib.new other }
     ensures stays { (other : List ℕ) → L.held lib.new other ≡ L.held lib.old other }

@@ -1,11 +1,17 @@
 // What the definitions of stages, texts and works say together.
 ghost use Rattle.std.specs.Prelude.{◌≡◌, ℕ, List};
+ghost use Rattle.core_machine.specs.FitWork.{IsFitWork};
 ghost use Rattle.wave_words.specs.declared.form.Form.{Form};
 ghost use Rattle.wave_main.specs.declared.status.Status.{Status};
 ghost use Rattle.wave_main.specs.Commands.{IsText};
 ghost use Rattle.wave_main.specs.Files.{Inputs};
+ghost use Rattle.wave_main.specs.Replay.{core_work};
 ghost use Rattle.wave_main.specs.Run.{IsWork, Work};
+ghost use Rattle.wave_main.specs.Sound.{IsSound};
 ghost use Rattle.wave_main.specs.Stages.{Calls, IsRefusedBy, Stage};
+
+use access_bounds::laws::accesses_are_inside;
+use loop_plan::laws::plans_fit_the_dependences;
 
 /// A stage refuses files with one status.
 pub fn a_stage_has_one_status()
@@ -21,6 +27,14 @@ pub fn stages_have_one_status()
 pub fn a_command_has_one_text()
     ensures { (form : Form) (words : List (List ℕ)) (files : Inputs) (a b : List ℕ) → IsText form words files a → IsText form words files b → a ≡ b }
 {}
+
+/// A sound work is fit: so all that holds of the reached states of fit works holds of it.
+pub fn sound_works_are_fit()
+    ensures { (work : Work) → IsSound work → IsFitWork (core_work work) }
+{
+    accesses_are_inside();
+    plans_fit_the_dependences();
+}
 
 /// Words and files determine one work.
 pub fn words_and_files_determine_a_work()

@@ -17,6 +17,7 @@ pub enum Piece {
     /// At most twenty bytes.
     Text(&'static str),
     Number(u64),
+    Signed(i64),
 }
 
 fn split_first(words: &[Piece]) -> Option<(Piece, &[Piece])>
@@ -44,6 +45,10 @@ fn push_word(line: &mut ArrayString<ROOM>, word: Piece)
     match word {
         Piece::Text(text) => line.push_str(text),
         Piece::Number(number) => {
+            let mut buffer = Buffer::new();
+            line.push_str(buffer.format(number));
+        }
+        Piece::Signed(number) => {
             let mut buffer = Buffer::new();
             line.push_str(buffer.format(number));
         }

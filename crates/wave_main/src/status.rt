@@ -36,6 +36,8 @@ pub enum ShapeKind {
     Files { have: u32, want: u32 },
     /// The first file that hasn't as many values as its array.
     Length { word: u32, have: u64, want: u64 },
+    /// The first entry of an order that is no worker's number.
+    Order { place: u64, value: i64 },
 }
 
 /// How a call of the program ends. `word` is the place, from 0, of a word of the command line.

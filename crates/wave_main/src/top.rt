@@ -11,7 +11,6 @@ use crate::commands::{built_command, make_text};
 use crate::report::report;
 use crate::status::Status;
 use crate::words::word_at;
-use std::alloc::Global;
 use std::sync::Wait;
 use std::thread::Threads;
 use wave_io::gate::Gate;
@@ -32,8 +31,8 @@ fn put_text<O: Sink>(out: &mut O, text: &[u8]) -> Result<(), Status>
 }
 
 /// Does what the words ask for, or says why not.
-fn try_command<L: Library, O: Sink>(
-    alloc: Global,
+fn try_command<R: AllocGlobal + Threads + Sync, L: Library, O: Sink>(
+    rt: &R,
     words: &[String],
     lib: &mut L,
     out: &mut O,
@@ -46,7 +45,7 @@ fn try_command<L: Library, O: Sink>(
     ensures out_never_falls { O.faults out.old ≤ O.faults out.new }
 {
     let asked = built_command(words)?;
-    let text = make_text(alloc, lib, words, asked)?;
+    let text = make_text(rt, lib, words, asked)?;
     put_text(out, text.as_slice())
 }
 
@@ -66,8 +65,8 @@ fn begins(words: &[String], wanted: &str) -> bool
 }
 
 /// Does what the words ask for, and says in one line why it didn't.
-fn serve<L: Library, O: Sink, E: Sink>(
-    alloc: Global,
+fn serve<R: AllocGlobal + Threads + Sync, L: Library, O: Sink, E: Sink>(
+    rt: &R,
     words: &[String],
     lib: &mut L,
     out: &mut O,
@@ -83,14 +82,14 @@ fn serve<L: Library, O: Sink, E: Sink>(
     ensures out_never_falls { O.faults out.old ≤ O.faults out.new }
     ensures err_never_falls { E.faults err.old ≤ E.faults err.new }
 {
-    let status = ended(try_command(alloc, words, lib, out));
+    let status = ended(try_command(rt, words, lib, out));
     report(err, status);
     status
 }
 
 /// Serves every command but `run` and `demo`, which it refuses as `Usage` with word 0. It reads files,
 /// puts the text of the command, and always returns.
-pub fn quiet_main<R: AllocGlobal + Threads, L: Library, O: Sink, E: Sink>(
+pub fn quiet_main<R: AllocGlobal + Threads + Sync, L: Library, O: Sink, E: Sink>(
     rt: &R,
     words: &[String],
     lib: &mut L,
@@ -112,19 +111,18 @@ pub fn quiet_main<R: AllocGlobal + Threads, L: Library, O: Sink, E: Sink>(
         report(err, Status::Usage { word: 0 });
         return Status::Usage { word: 0 };
     }
-    serve(rt.alloc(), words, lib, out, err)
+    serve(rt, words, lib, out, err)
 }
 
 /// Does all that the program does, but for the real files and streams: it serves `run` and `demo`
 /// itself and hands all other words to `quiet_main`.
-pub fn wave_main<R: AllocGlobal + Threads + Wait, L: Library, O: Sink, E: Sink, G: Gate + Sync>(
-    rt: &R,
-    words: &[String],
-    lib: &mut L,
-    out: &mut O,
-    err: &mut E,
-    _gate: &G,
-) -> Status
+pub fn wave_main<
+    R: AllocGlobal + Threads + Sync + Wait,
+    L: Library,
+    O: Sink,
+    E: Sink,
+    G: Gate + Sync,
+>(rt: &R, words: &[String], lib: &mut L, out: &mut O, err: &mut E, _gate: &G) -> Status
     requires { length words.now < 2 ^ 32 }
     ensures answer { HasAnswered (L.held lib.old) (texts words.now) (changed (L.faults lib.old) (L.faults lib.new) (O.written out.old) (O.written out.new) (O.faults out.old) (O.faults out.new)) result }
     ensures says { SaysWhy result (E.written err.old) (E.written err.new) (E.faults err.old) (E.faults err.new) }
@@ -136,7 +134,7 @@ pub fn wave_main<R: AllocGlobal + Threads + Wait, L: Library, O: Sink, E: Sink, 
     ensures err_never_falls { E.faults err.old ≤ E.faults err.new }
 {
     if begins(words, "run") || begins(words, "demo") {
-        return serve(rt.alloc(), words, lib, out, err);
+        return serve(rt, words, lib, out, err);
     }
     quiet_main(rt, words, lib, out, err)
 }

@@ -6,8 +6,8 @@ use Rattle.wave_main.specs.Status.{line}
 use Rattle.wave_main.proofs.check.check_text.Goals as goal
 
 pub returns : goal.returns
-returns c inputs are same =
-    let read = c.in_ok-input.ensures.answer inputs are same in (
+returns c inputs are same none =
+    let read = c.in_ok-input.ensures.answer inputs are same none in (
       record {
         nest = c.in_ok-input.input.nest;
         is_loop = read.0.is_loop;

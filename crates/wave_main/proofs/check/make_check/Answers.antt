@@ -1,4 +1,4 @@
-use Rattle.std.proofs.Common.{◌≡◌, ◌⊎◌, ℕ, List, sym}
+use Rattle.std.proofs.Common.{◌≡◌, ◌⊎◌, ℕ, List, refl, sym}
 use Rattle.std.specs.Prelude.{Result, Ok, Err, Vec, MatchResult}
 use Rattle.std.specs.declared.alloc.Global.{Global}
 use Rattle.wave_main.specs.declared.status.Status.{Status}
@@ -15,7 +15,7 @@ use Rattle.wave_main.proofs.check.make_check.Goals as goal
 
 of_check : (ws : List (List ℕ)) (files : Inputs) (r : Result (Vec ℕ Global) Status)
     → MatchResult r (λ text. CheckPrints files text.items × AcceptAll input_stages files) (λ status. (status ≡ Memory) ⊎ IsRefusedBy input_stages files status)
-    → MatchResult r (λ text. AcceptAll (stages forms.Check) files × IsText forms.Check ws files text.items) (λ status. (status ≡ Memory) ⊎ IsRefusedBy (stages forms.Check) files status)
+    → MatchResult r (λ text. AcceptAll (stages forms.Check ws) files × IsText forms.Check ws files text.items) (λ status. (status ≡ Memory) ⊎ IsRefusedBy (stages forms.Check ws) files status)
 of_check ws files (Ok text) h = (h.1, h.0)
 of_check ws files (Err status) h = h
 
@@ -30,7 +30,7 @@ returns-clause-made g c =
     let got = c.in_ok-files.ensures.fetched in
     let placed = at_places (g.L.Library.held c.args.lib.now) ws forms.Check c.args.first got.0 _ c.requires.places got.1 in
     made_by (g.L.Library.held c.args.lib.now) ws forms.Check got.0 c.check_text.result c.requires.built (input_files (g.L.Library.held c.args.lib.now) ws forms.Check got.0 _ c.requires.built placed)
-    (of_check ws (inputs_of forms.Check got.0) c.check_text.result (c.check_text.ensures (inputs_of forms.Check got.0) placed.are (sym c.requires.places)))
+    (of_check ws (inputs_of forms.Check got.0) c.check_text.result (c.check_text.ensures (inputs_of forms.Check got.0) placed.are (sym c.requires.places) refl))
 
 pub returns-clause-missed : goal.returns-clause-missed
 returns-clause-missed g c =
@@ -38,4 +38,4 @@ returns-clause-missed g c =
     let got = c.in_ok-files.ensures.fetched in
     let placed = at_places (g.L.Library.held c.args.lib.now) ws forms.Check c.args.first got.0 _ c.requires.places got.1 in
     missed_by (g.L.Library.held c.args.lib.now) ws forms.Check got.0 (g.L.Library.faults c.args.lib.now) (g.L.Library.faults c.fetch_inputs.new.lib) c.check_text.result c.requires.built (input_files (g.L.Library.held c.args.lib.now) ws forms.Check got.0 _ c.requires.built placed)
-    (of_check ws (inputs_of forms.Check got.0) c.check_text.result (c.check_text.ensures (inputs_of forms.Check got.0) placed.are (sym c.requires.places)))
+    (of_check ws (inputs_of forms.Check got.0) c.check_text.result (c.check_text.ensures (inputs_of forms.Check got.0) placed.are (sym c.requires.places) refl))

@@ -17,7 +17,7 @@ use Rattle.wave_main.proofs.explain.make_explain.Goals as goal
 
 of_explain : (ws : List (List ℕ)) (files : Inputs) (r : Result (Vec ℕ Global) Status)
     → MatchResult r (λ text. IsExplained files.loop_file text.items) (IsUnexplained files.loop_file)
-    → MatchResult r (λ text. AcceptAll (stages forms.Explain) files × IsText forms.Explain ws files text.items) (λ status. (status ≡ Memory) ⊎ IsRefusedBy (stages forms.Explain) files status)
+    → MatchResult r (λ text. AcceptAll (stages forms.Explain ws) files × IsText forms.Explain ws files text.items) (λ status. (status ≡ Memory) ⊎ IsRefusedBy (stages forms.Explain ws) files status)
 of_explain ws files (Ok text) e = (
   (loop_accepted files e.nest e.is_loop, (bounds_accepted files e.nest (record { is = e.is_loop; accepted = e.accepted }), tt)),
   record { nest = e.nest; is_loop = e.is_loop; verdicts = e.verdicts; are_verdicts = e.are_verdicts; printed = e.printed },

@@ -8,13 +8,12 @@ returns-clause-fetched g c =
     input_fetched (g.L.Library.held c.args.lib.now) (g.L.Library.held c.fetch_loop.new.lib) (g.L.Library.held c.fetch_file.new.lib) c.args.words.now c.args.first _ c.word_at.result.now (record { loop_file = c.in_ok-loop_file.loop_file; matrix = c.in_ok-matrix.matrix; vectors = c.in_ok-vectors.vectors })
     c.requires.apart c.requires.within refl c.word_at.ensures c.fetch_loop.ensures.stays c.fetch_file.ensures.stays c.in_ok-loop_file.ensures.file c.in_ok-matrix.ensures.file c.in_ok-vectors.ensures.files
 
-pub returns-clause-few : goal.returns-clause-few
-returns-clause-few g c =
+pub returns-clause-count : goal.returns-clause-count
+returns-clause-count g c =
     let got : InputBytes = record { loop_file = c.in_ok-loop_file.loop_file; matrix = c.in_ok-matrix.matrix; vectors = c.in_ok-vectors.vectors } in
     let is = input_fetched (g.L.Library.held c.args.lib.now) (g.L.Library.held c.fetch_loop.new.lib) (g.L.Library.held c.fetch_file.new.lib) c.args.words.now c.args.first _ c.word_at.result.now got
     c.requires.apart c.requires.within refl c.word_at.ensures c.fetch_loop.ensures.stays c.fetch_file.ensures.stays c.in_ok-loop_file.ensures.file c.in_ok-matrix.ensures.file c.in_ok-vectors.ensures.files in
-    let len = few_vectors (g.L.Library.held c.args.lib.now) c.args.words.now c.args.first is.0 got c.requires.within is.1 in
-    omega (arith, len, c.requires.few)
+    few_vectors (g.L.Library.held c.args.lib.now) c.args.words.now c.args.first is.0 got c.requires.within is.1
 
 pub returns-in_err-vectors-clause-fault : goal.returns-in_err-vectors-clause-fault
 returns-in_err-vectors-clause-fault g c =

@@ -19,7 +19,7 @@ use Rattle.wave_main.proofs.show.make_show.Goals as goal
 
 of_show : (ws : List (List ℕ)) (files : Inputs) (r : Result (Vec ℕ Global) Status)
     → MatchResult r (λ text. (nest : Nest) × IsLoop files.loop_file nest × (text.items ≡ nest_text nest)) (λ status. (status ≡ Memory) ⊎ IsLoopFault files.loop_file status)
-    → MatchResult r (λ text. AcceptAll (stages forms.Show) files × IsText forms.Show ws files text.items) (λ status. (status ≡ Memory) ⊎ IsRefusedBy (stages forms.Show) files status)
+    → MatchResult r (λ text. AcceptAll (stages forms.Show ws) files × IsText forms.Show ws files text.items) (λ status. (status ≡ Memory) ⊎ IsRefusedBy (stages forms.Show ws) files status)
 of_show ws files (Ok text) (nest, is, printed) = ((loop_accepted files nest is, tt), record { nest = nest; is_loop = is; printed = printed })
 of_show ws files (Err status) h = elim h [ inl want ↦ inl want | inr e ↦ inr (inl e) ]
 
