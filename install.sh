@@ -52,7 +52,7 @@ for file in "$top"/examples/*/*.loop "$top"/examples/*/*.mtx; do
 done
 put 755 "$top/examples/gauss_seidel/sweeps.sh" "$share/wave/examples/gauss_seidel"
 put 644 "$top/tools/wave.py" "$share/wave/tools"
-for tool in check_matrix to_mtx; do
+for tool in check_matrix draw_plan to_mtx; do
     put 755 "$top/tools/$tool" "$share/wave/tools"
 done
 echo "wave is installed: $1/bin/wave"

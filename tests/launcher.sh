@@ -258,7 +258,7 @@ call env WAVE_PROGRAM="$scratch/program" "$clone/install.sh" "$prefix"
 judge 'install.sh' ended 0
 for file in bin/wave lib/wave/wave share/wave/faults.tsv share/wave/LANGUAGE.md share/man/man1/wave.1 \
     share/bash-completion/completions/wave share/zsh/site-functions/_wave \
-    share/fish/vendor_completions.d/wave.fish share/wave/examples/forward/unit.loop share/wave/tools/wave.py; do
+    share/fish/vendor_completions.d/wave.fish share/wave/examples/forward/unit.loop share/wave/tools/wave.py share/wave/tools/draw_plan; do
     judge "install.sh puts $file" test -s "$prefix/$file"
 done
 ln -s "../a prefix/bin/wave" "$scratch/elsewhere/installed"

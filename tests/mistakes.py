@@ -34,6 +34,7 @@ MATRIX = """%%MatrixMarket matrix coordinate integer general
 3 3 1
 """
 VECTOR = "%%MatrixMarket matrix array integer general\n3 1\n1\n2\n3\n"
+ORDER = "%%MatrixMarket matrix array integer general\n4 1\n1\n1\n2\n1\n"
 WORDS = ["run", "a.loop", "a.mtx", "1", "b.mtx"]
 
 
@@ -108,6 +109,9 @@ MISTAKES = [
     ("a matrix that isn't square", matrix("3 3 5", "4 3 5"), WORDS, "shape rows 4 columns 3", "a greater number in the size line"),
     ("a vector too few", {}, ["run", "a.loop", "a.mtx", "1"], "shape files have 0 want 1", "in this order: b"),
     ("a vector that is too short", vector("3 1\n1\n", "2 1\n"), WORDS, "shape length word 4 have 2 want 3", "in this order: b"),
+    ("an order of a third worker", {"o.mtx": ORDER}, ["replay", "a.loop", "a.mtx", "2", "o.mtx", "b.mtx"], "shape order place 2 value 2", "word 4 is o.mtx"),
+    ("an order that counts from 1", {"o.mtx": ORDER}, ["replay", "a.loop", "a.mtx", "2", "o.mtx", "b.mtx"], "shape order place 2 value 2", "from 0 to one less than WORKERS"),
+    ("a replay without an order", {}, ["replay", "a.loop", "a.mtx", "2", "b.mtx"], "shape files have 0 want 1", "the order stands before them"),
     ("a property that doesn't hold", {"a.loop": LOOP.replace("loop i", "below a.col by a.ptr\nloop i")}, WORDS, "property 1 first 0 second 0", "its line 4: below a.col by a.ptr"),
     ("a check of one", {"a.loop": LOOP.replace("loop i", "# of the rows\nstrict a.ptr\nbelow a.col by a.ptr\nloop i")}, ["check", "a.loop", "a.mtx", "b.mtx"], "property 2 first 0 second 0", "its line 6: below a.col by a.ptr"),
     ("workers for a check", {}, ["check", "a.loop", "a.mtx", "1", "b.mtx"], "read word 3", "1, which isn't there"),

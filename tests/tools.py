@@ -16,12 +16,13 @@ CASES = Cases("tools")
 TOOLS = os.path.join(TOP, "tools")
 EXAMPLES = os.path.join(TOP, "examples")
 
-# A stand-in for the program: it prints the entries of the matrix file and of each vector file.
+# A stand-in for the program: it prints a summary, and the entries of the matrix file and of each vector file.
 STAND_IN = """#!/usr/bin/env python3
 import os, sys
 if "FAULT" in os.environ:
     print(os.environ["FAULT"], file=sys.stderr)
     sys.exit(9)
+print("relations 0 dropped 0 covered 0 kept 0\\nrows 0 stored 0 edges 0\\nlevels 0 tasks 0 cross 0 waits 0")
 for place, name in enumerate(sys.argv[3:4] + sys.argv[5:]):
     words = [word for line in open(name).read().split("\\n")[1:] for word in line.split()]
     print("array", "mvwxyz"[place], len(words))
@@ -38,7 +39,7 @@ def wave_module():
 
 
 def helps():
-    for tool in ("wave.py", "check_matrix", "to_mtx", "why", "faults.py", "map.py", "picture.py"):
+    for tool in ("wave.py", "check_matrix", "to_mtx", "why", "draw_plan", "faults.py", "map.py", "picture.py"):
         for word in ("--help", "-h"):
             status, out, err = call([os.path.join(TOOLS, tool), word])
             CASES.judge(f"{tool} {word}", status == 0 and len(out) > 100 and not err, err)
@@ -51,12 +52,16 @@ def to_mtx():
     head = "%%MatrixMarket matrix array integer general\n"
     answer = b"array x 2\n1\n-2\narray a.val 1\n7\narray e 0\n"
     CASES.same("to_mtx of one array", call([tool], b"array x 2\n1\n-2\n"), (0, head + "2 1\n1\n-2\n", ""))
+    summary = b"relations 1 dropped 0 covered 0 kept 1\nrows 2 stored 2 edges 0\nlevels 1 tasks 1 cross 0 waits 0\n"
+    CASES.same("to_mtx after a summary", call([tool], summary + b"array x 1\n-2\n"), (0, head + "1 1\n-2\n", ""))
+    CASES.same("to_mtx after a replay's summary", call([tool], summary + b"looks 4 passed 1\narray x 1\n7\n"), (0, head + "1 1\n7\n", ""))
     CASES.same("to_mtx of a named array", call([tool, "a.val"], answer), (0, head + "1 1\n7\n", ""))
     CASES.same("to_mtx of an empty array", call([tool, "e"], answer), (0, head + "0 1\n", ""))
     for case, words, text, said in (
         ("of several", [], answer, "which array? There are x, a.val, e"),
         ("of another name", ["y"], answer, "no array y; there are x, a.val, e"),
         ("of nothing", [], b"", "no array"),
+        ("of a summary alone", [], summary, "no array"),
         ("of an answer that is cut off", [], b"array x 3\n1\n", "cut off"),
         ("of something else", [], b"hello\n", "line 1"),
     ):
@@ -119,6 +124,57 @@ def why(folder):
     os.chmod(stand_in, 0o755)
     status, out, err = call([tool, loop], WAVE_PROGRAM=stand_in)
     CASES.judge("why of a loop that is refused", status == 1 and not out and "loop text line 2" in err, err)
+
+
+def plans_of(page):
+    """The plans that a page of examples/ shows, in order."""
+    with open(os.path.join(EXAMPLES, page, "README.md"), encoding="utf-8") as file:
+        return [block + "\n" for block in file.read().split("\n```\n") if "\nchain" in block and block.startswith("relations")]
+
+
+def made_plan(levels, workers):
+    """The text of a plan in which each worker has a task in each level and waits for the next one's task before."""
+    text = f"relations 1 dropped 0 covered 0 kept 1\nrows {levels * workers} stored 0 edges 0\n"
+    text += f"levels {levels} tasks {levels * workers} cross 0 waits {(levels - 1) * workers}\nchain\n"
+    for worker in range(workers):
+        text += f"worker {worker}\n"
+        for level in range(levels):
+            wait = f" {(worker + 1) % workers}:{level}" if level else ""
+            text += f"task rows {level * workers + worker} waits{wait}\n"
+    return text
+
+
+def draw_plan():
+    tool = os.path.join(TOOLS, "draw_plan")
+    for page, place, name in (("gauss_seidel", 1, "grid.svg"), ("backward", 0, "plan.svg")):
+        with open(os.path.join(EXAMPLES, page, name), encoding="utf-8") as file:
+            CASES.same(f"draw_plan of {page}", call([tool], plans_of(page)[place].encode()), (0, file.read(), ""))
+    status, out, err = call([tool], made_plan(20, 10).encode())
+    drawn = (out.count('class="task"'), out.count('class="wait"'), out.count('class="rows"'))
+    CASES.same("draw_plan of 200 tasks", (status, err, drawn), (0, "", (200, 190, 0)))
+    for levels, shown in ((101, 101), (1001, 334)):
+        status, out, err = call([tool], made_plan(levels, 2).encode())
+        drawn = (out.count('class="task"'), out.count('class="rows"'), out.count('class="most"'))
+        CASES.same(f"draw_plan of {2 * levels} tasks", (status, err, drawn), (0, "", (0, shown, shown)))
+    few = made_plan(2, 2)
+    none = "relations 1 dropped 1 covered 0 kept 0\nrows 0 stored 0 edges 0\nlevels 0 tasks 0 cross 0 waits 0\nchain\nworker 0\n"
+    status, out, err = call([tool], none.encode())
+    CASES.judge("draw_plan of no rows", status == 0 and not err and "worker 0 has no tasks" in out, err)
+    many = few + "".join(f"worker {number}\n" for number in range(2, 64))
+    CASES.judge("draw_plan of workers without tasks", "workers 2 to 63 have no tasks" in call([tool], many.encode())[1])
+    for case, text, said in (
+        ("of nothing", "", "line 1"),
+        ("of an answer of run", "array x 1\n7\n", "line 1"),
+        ("of a task without a worker", few.replace("worker 0\n", ""), "line 5"),
+        ("of a plan that is cut off", few[: few.rindex("task")], "3 of 4 tasks"),
+        ("of another number of a worker", few.replace("worker 1", "worker 2"), "worker 1"),
+        ("of a wait without its count", few.replace(" 1:1", " 1"), "line 7"),
+        ("of tasks that wait for each other", few.replace("rows 0 waits", "rows 0 waits 1:1").replace("rows 1 waits", "rows 1 waits 0:1"), "wait for each other"),
+        ("of too many levels", few.replace("levels 2", "levels 3"), "2 levels"),
+        ("of a wait for no worker", few.replace(" 1:1", " 9:1"), "aren't there"),
+    ):
+        status, out, err = call([tool], text.encode())
+        CASES.judge(f"draw_plan {case}", status == 1 and not out and said in err, err)
 
 
 def refused(case, said, function, *words):
@@ -235,6 +291,7 @@ def main():
         os.environ.pop(name, None)
     helps()
     to_mtx()
+    draw_plan()
     with scratch() as folder:
         check_matrix(folder)
         why(folder)

@@ -6,8 +6,9 @@ usage: tools/picture.py            writes it
        tools/picture.py --check    status 1 if it differs
 
 Levels, shares and waits are computed here from the matrix by their definitions: a row's level is one more
-than the greatest of the rows that it reads; of a level with m rows the row at place s goes to worker
-s * 2 // m; a wait stays where no other task lies between.
+than the greatest of the rows that it reads; of a level whose rows have the weights q0, q1, .. with sum t, a
+row with the sum b before it goes to worker b * 2 // t, where a row weighs 2 and one more for each row that it
+reads; a wait stays where no other task lies between.
 """
 import os
 import sys
@@ -33,8 +34,9 @@ def tasks():
     result = {}
     for at in range(max(level) + 1):
         rows = [row for row in range(len(level)) if level[row] == at]
+        weights = [2 + len(BEFORE[row]) for row in rows]
         for place, row in enumerate(rows):
-            result.setdefault((place * WORKERS // len(rows), at), []).append(row)
+            result.setdefault((sum(weights[:place]) * WORKERS // sum(weights), at), []).append(row)
     return result
 
 
@@ -126,7 +128,7 @@ def task_picture(left, top):
 def picture():
     """The text of the file."""
     cross, kept = crossings()
-    note = f"On the right, arrows: {len(kept)} waits; dotted: {len(cross) - len(kept)} that need none, as other tasks lie between"
+    note = f"Arrows there: {len(kept)} waits; dotted: {len(cross) - len(kept)} that need none, as other tasks lie between"
     parts = [
         '<svg xmlns="http://www.w3.org/2000/svg" viewBox="0 0 760 320" font-family="sans-serif" role="img">',
         "<title>A small matrix, the levels of its rows and the tasks of two workers</title>",
@@ -137,7 +139,7 @@ def picture():
         *level_picture(260, 50),
         *task_picture(530, 50),
         text(20, 304, note, 11, "start", "#666"),
-        text(20, 286, "What the program will do with workers: so far it runs the rows in order.", 11, "start", "#666"),
+        text(20, 286, "On the right, what `wave plan` prints for two workers. So far `wave run` has one.", 11, "start", "#666"),
         "</svg>",
     ]
     return "\n".join(parts) + "\n"

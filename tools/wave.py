@@ -107,11 +107,11 @@ def write_vector(path, vector, number):
 
 
 def parsed(text):
-    """The arrays of a printed answer, by their names."""
+    """The arrays of a printed answer, by their names. The summary before them is left out."""
     arrays = {}
     lines = iter(text.split("\n"))
     for head in lines:
-        if head:
+        if head.startswith("array "):
             _, name, length = head.split(" ")
             arrays[name] = [int(next(lines)) for _ in range(int(length))]
     return arrays

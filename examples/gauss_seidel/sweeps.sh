@@ -20,10 +20,10 @@ mkdir "$scratch" || exit 1
 trap 'rm -rf "$scratch"' EXIT
 cp "$4" "$scratch/start" || exit 1
 
-# vector: the printed array on standard input as a vector file
+# vector: the printed array on standard input as a vector file, without the summary before it
 vector() {
     echo '%%MatrixMarket matrix array integer general'
-    sed '1s/^array x \(.*\)$/\1 1/'
+    sed -n -e '/^[-0-9]/p' -e 's/^array x \(.*\)$/\1 1/p'
 }
 
 sweep=0
