@@ -1,0 +1,7 @@
+pub mod Small
+pub mod Fitting
+pub mod Listed
+pub mod Touched
+pub mod Kept
+pub mod Seen
+pub mod Closing
