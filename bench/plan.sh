@@ -1,9 +1,9 @@
 #!/bin/sh
 # Plans a million rows with four pairs each, by turns with the proved plan and with a C program: a chain, a
 # grid of 1,999 levels and one wide level; then 1,048,576 rows that each depend on seven earlier ones, which
-# are drawn. Prints what came out, the least milliseconds of each from the
-# pairs to the schedule, their ratio, and the most memory held, where /usr/bin/time is there. The pairs
-# alone take 32 MB. Without a C compiler the comparison is skipped.
+# are drawn. Prints what came out, the least milliseconds of each from the pairs to the schedule, their ratio,
+# and the most memory held, where /usr/bin/time is there. The pairs alone take 32 MB. Without a C compiler the
+# comparison is skipped.
 #
 # usage: bench/plan.sh [ROWS [WORKERS [TURNS [DRAWN]]]]      (1000000 4 3 1048576)
 # Ends with 1 where the two plans differ or the proved one takes more than 3 seconds.
@@ -24,7 +24,7 @@ compiler=
 for name in "${CC:-}" cc gcc clang; do
     if [ -n "$name" ] && command -v "$name" >/dev/null 2>&1; then compiler=$name; break; fi
 done
-[ -z "$compiler" ] || "$compiler" -O2 -o "$work/plan_c" bench/plan.c
+[ -z "$compiler" ] || "$compiler" -O2 -o "$work/plan_c" bench/plan.c bench/schedule.c
 took() { awk '$1 == "milliseconds" { print $2 }' "$1"; }
 least() { if [ -z "$1" ] || [ "$2" -lt "$1" ]; then echo "$2"; else echo "$1"; fi; }
 
