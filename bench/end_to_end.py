@@ -207,15 +207,17 @@ def loops(folder, count, top, program):
     """the milliseconds of the commands that read and analyse a loop, and of a plan of three rows"""
     matrix = file_of(folder, "three.mtx", COORDINATE + THREE_ROWS)
     vector = file_of(folder, "three_b.mtx", ARRAY + "3 1\n1\n2\n3\n")
-    print(f"milliseconds of a process, least and median of {count}; * above {ANALYSIS[1]}, ** above {ANALYSIS[2]}")
+    above = f"* above {ANALYSIS[1]}, ** above {ANALYSIS[2]}"
+    print(f"milliseconds from start to end and of the processor, the least of {count} turns; {above}")
     print(f"{'':26}{'show':>16}{'explain':>18}{'plan, three rows':>18}")
     for name, path, vectors in LOOPS:
         loop = os.path.join(top, "examples", path)
         asked = ["show", loop], ["explain", loop], ["plan", loop, matrix, "4", *[vector] * vectors]
         line = f"{name:26}"
         for words in asked:
-            took = [measured([program, *words], os.path.join(folder, "wave"))[0] * 1000 for _ in range(count)]
-            line += f"{min(took):8.2f}{statistics.median(took):8.2f}{mark(min(took), *ANALYSIS[1:])}"
+            took = [measured([program, *words], os.path.join(folder, "wave")) for _ in range(count)]
+            least, busy = (min(one[part] for one in took) * 1000 for part in (0, 1))
+            line += f"{least:8.2f}{busy:8.2f}{mark(least, *ANALYSIS[1:])}"
         print(line.rstrip(), flush=True)
 
 
