@@ -7,13 +7,9 @@ use Rattle.row_graph.specs.Buckets.{rows_with}
 use Rattle.row_graph.specs.Distinct.{begins_with, distinct}
 use Rattle.row_graph.specs.Turned.{turned}
 use Rattle.row_graph.specs.Predecessors.{AreAscending}
+use Rattle.row_graph.specs.Rising.{Rising}
 use Rattle.row_graph.proofs.Counts.{rows_with-append}
 use Rattle.row_graph.proofs.Members.{rows_with-cons}
-
--- from a number on, never below the row before
-abbrev pub Rising : ℕ → List RowId → Type 0
-Rising low [] = Unit {0}
-Rising low (r ∷ rows) = (low ≤ r.0) × Rising r.0 rows
 
 -- from a number on, each above the row before
 abbrev pub Climbing : ℕ → List RowId → Type 0

@@ -6,3 +6,4 @@ pub mod Parts
 pub mod PlainGraph
 pub mod Sorting
 pub mod Starts
+mod Orderly

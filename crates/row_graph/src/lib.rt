@@ -7,4 +7,5 @@ pub mod firsts;
 pub mod lists;
 pub mod plain;
 pub mod preds;
+mod rising;
 mod turned;
