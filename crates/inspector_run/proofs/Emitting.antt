@@ -39,17 +39,17 @@ same_variable_is v w e =
     let at : ℕ → Side → VarId = λ line side. record { line = line; side = side } in
     ap (λ n. at n v.side) (eqb-true v.line w.line parts.0) ∙ ap (at w.line) (sides_are v.side w.side parts.1)
 
-known_or : (b : Bool) (P : Bool → Type 0) → (b ≡ true → P true) → (b ≡ false → P false) → P b
+pub known_or : (b : Bool) (P : Bool → Type 0) → (b ≡ true → P true) → (b ≡ false → P false) → P b
 known_or true P f g = f refl
 known_or false P f g = g refl
 
-other_variable : (vars : List VarId) (v i : VarId) → is_among vars i ≡ true → is_among vars v ≡ false → same_variable v i ≡ false
+pub other_variable : (vars : List VarId) (v i : VarId) → is_among vars i ≡ true → is_among vars v ≡ false → same_variable v i ≡ false
 other_variable vars v i has none =
     known_or (same_variable v i) (λ b. b ≡ false)
     (λ e. absurd (both_ways (is_among vars v) none (subst (λ w. is_among vars w ≡ true) (sym (same_variable_is v i e)) has)))
     (λ e. refl)
 
-still : (v : VarId) (x : ℤ) (env : List Binding) (i : VarId) → same_variable v i ≡ false → value_in (fixed v x env) i ≡ value_in env i
+pub still : (v : VarId) (x : ℤ) (env : List Binding) (i : VarId) → same_variable v i ≡ false → value_in (fixed v x env) i ≡ value_in env i
 still v x env i e = ap (λ b. cond b x (value_in env i)) e
 
 among_more : (vars used : List VarId) (v : VarId) → list_all (is_among vars) used ≡ true → list_all (is_among (v ∷ vars)) used ≡ true
@@ -102,7 +102,7 @@ AreApart i j env = value_in env i <ℤ value_in env j
 abbrev pub IsHigh : ℕ → VarId → List Binding → Type 0
 IsHigh n j env = value_in env j <ℤ pos n
 
-le_is : (x y : ℤ) → int_le x y ≡ true → x ≤ℤ y
+pub le_is : (x y : ℤ) → int_le x y ≡ true → x ≤ℤ y
 le_is x y e = grind (arith, ints)
 
 low_from : (a : Lists) (env : List Binding) (i : VarId) → is_true a env (from_zero i) ≡ true → IsLow i env
@@ -164,7 +164,7 @@ all_tested a i j e vars env due known holds d = record {
   high = due_tested a (j ∷ []) (IsHigh a.n j) (below_rows j) e vars env due known holds (high_from a env j) (high_uses j) d.high;
 }
 
-not_yet : (vars : List VarId) (v : VarId) → list_all (λ w. not (is_among vars w)) (v ∷ []) ≡ true → is_among vars v ≡ false
+pub not_yet : (vars : List VarId) (v : VarId) → list_all (λ w. not (is_among vars w)) (v ∷ []) ≡ true → is_among vars v ≡ false
 not_yet vars v e = not-true (is_among vars v) (and_parts (not (is_among vars v)) true e).0
 
 earlier_after : (a : Lists) (i j : VarId) (before : List InspOp) (vars : List VarId) (env : List Binding) → AreFixedInOrder vars (before ++ Emit i j ∷ []) → flat_map emits before ≡ [] → AreDue a i j vars env (tests before) → All (IsEarlier a.n) (met a (before ++ Emit i j ∷ []) env)

@@ -12,3 +12,6 @@ pub mod Along
 pub mod Arms
 pub mod Gathered
 pub mod Parts
+pub mod Locality
+pub mod Sure
+pub mod Kept

@@ -6,3 +6,4 @@ pub mod Ready
 pub mod Inverses
 pub mod IsPlan
 pub mod Pieces
+pub mod Needed

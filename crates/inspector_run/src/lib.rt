@@ -7,6 +7,7 @@ mod invert;
 mod joined;
 pub mod laws;
 mod locate;
+mod needed;
 pub mod pairs;
 mod pieces;
 pub mod plan;

@@ -1,14 +1,15 @@
 // The pairs of a plan.
-ghost use Rattle.std.specs.Prelude.{◌≡◌, ◌+◌, ◌<◌, ◌≤◌, IfOk};
+ghost use Rattle.std.specs.Prelude.{◌≡◌, ◌+◌, ◌<◌, ◌≤◌, [], IfOk};
 ghost use Rattle.std.specs.List.{All};
 ghost use Rattle.wave_base.specs.declared.types.RowId.{RowId};
 ghost use Rattle.inspector_run.specs.Pairs.{emitted as of_plan};
 ghost use Rattle.inspector_run.specs.Ticks.{most_ticks};
-ghost use Rattle.inspector_run.specs.Ready.{SearchesAscending};
+ghost use Rattle.inspector_run.specs.Ready.{SearchesAscending, IsReady};
 ghost use Rattle.inspector_run.specs.IsPlan.{IsPlan};
 
 use crate::invert::invert;
-use crate::plan::InspPlan;
+use crate::needed::needed;
+use crate::plan::{InspOp, InspPlan};
 use crate::run::run;
 use loop_core::arrays::Arrays;
 use loop_core::env::Env;
@@ -34,7 +35,21 @@ pub fn pairs<L: Ledger>(
     ensures earlier { IfOk result (λ pairs. All (λ (p : RowId × RowId). p.0.0 < p.1.0) pairs.items) }
     ensures rows { IfOk result (λ pairs. All (λ (p : RowId × RowId). p.1.0 < arrays.now.n) pairs.items) }
 {
-    let ops = plan.ops.as_slice();
+    let ops = needed(alloc, plan.ops.as_slice())?;
+    all_pairs(alloc, ops.as_slice(), arrays, steps)
+}
+
+// The pairs of operations that may be run.
+pub(crate) fn all_pairs<L: Ledger>(
+    alloc: Global,
+    ops: &[InspOp],
+    arrays: &Arrays,
+    steps: &mut Steps<L>,
+) -> Result<Vec<(RowId, RowId)>, Memory>
+    requires { IsReady arrays.now ops.now [] }
+    ensures emitted { IfOk result (λ pairs. pairs.items ≡ of_plan arrays.now ops.now) }
+    ensures ticks { steps.new ≤ steps.old + most_ticks arrays.now ops.now }
+{
     let inverses = invert(alloc, ops, arrays, steps)?;
     let mut pairs = Vec::new(alloc);
     run(

@@ -11,7 +11,8 @@ ghost use Rattle.inspector_run.specs.Pieces.{values_in, piece_pairs, MayRun, IsH
 use crate::inverse::Inverse;
 use crate::invert::invert;
 use crate::joined::joined;
-use crate::pairs::pairs;
+use crate::needed::needed;
+use crate::pairs::all_pairs;
 use crate::pieces::{Piece, pieces, whole};
 use crate::plan::{InspOp, InspPlan};
 use crate::run::{first_of, run_along};
@@ -42,8 +43,22 @@ pub fn pairs_split(
     ensures earlier { IfOk result (λ pairs. All (λ (p : RowId × RowId). p.0.0 < p.1.0) pairs.items) }
     ensures rows { IfOk result (λ pairs. All (λ (p : RowId × RowId). p.1.0 < arrays.now.n) pairs.items) }
 {
-    match outer_loop(plan.ops.as_slice()) {
-        None => alone::<Brand>(alloc, plan, arrays, Blank::new(1)),
+    let ops = needed(alloc, plan.ops.as_slice())?;
+    pairs_shared(rt, alloc, ops.as_slice(), arrays)
+}
+
+// The pairs of operations that may be run.
+fn pairs_shared(
+    rt: &(impl Threads + Sync),
+    alloc: Global,
+    ops: &[InspOp],
+    arrays: &Arrays,
+) -> Result<Vec<(RowId, RowId)>, Memory>
+    requires ready { IsReady arrays.now ops.now [] }
+    ensures { IfOk result (λ pairs. pairs.items ≡ of_plan arrays.now ops.now) }
+{
+    match outer_loop(ops) {
+        None => alone::<Brand>(alloc, ops, arrays, Blank::new(1)),
         Some(outer) => spread::<Brand>(rt, alloc, outer, arrays, Blank::new(1)),
     }
 }
@@ -79,19 +94,18 @@ fn outer_loop(ops: &[InspOp]) -> Option<OuterLoop<'_>>
 // All pairs by the caller.
 fn alone<L: Ledger>(
     alloc: Global,
-    plan: &InspPlan,
+    ops: &[InspOp],
     arrays: &Arrays,
     blank: Blank,
 ) -> Result<Vec<(RowId, RowId)>, Memory>
     requires name { blank.name ≡ L.name }
     requires parts { blank.parts ≡ L.parts }
     requires one { blank.parts ≡ 1 }
-    requires plan { IsPlan plan.now.ops }
-    requires ascending { All (SearchesAscending arrays.now) plan.now.ops }
-    ensures emitted { IfOk result (λ pairs. pairs.items ≡ of_plan arrays.now plan.now.ops) }
+    requires ready { IsReady arrays.now ops.now [] }
+    ensures { IfOk result (λ pairs. pairs.items ≡ of_plan arrays.now ops.now) }
 {
     let mut steps = Steps::<L>::open(blank);
-    pairs(alloc, plan, arrays, &mut steps)
+    all_pairs(alloc, ops, arrays, &mut steps)
 }
 
 // The pairs of an outer loop and of what follows it.

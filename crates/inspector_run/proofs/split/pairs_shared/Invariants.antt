@@ -1,4 +1,4 @@
-use Rattle.inspector_run.proofs.split.pairs_split.Given as goal
+use Rattle.inspector_run.proofs.split.pairs_shared.Given as goal
 
 abbrev pub ghosts-alone : goal.ghosts-alone
 ghosts-alone g a = record { name = a.blank.name; parts = a.blank.parts }
