@@ -66,13 +66,13 @@ for shell in bash zsh fish; do
     offer "$shell" '--help --version check demo explain help plan replay run show ' wave ''
     offer "$shell" 'replay run ' wave r
     offer "$shell" 'grid lower ' wave demo ''
-    offer "$shell" '1 ' wave run a.loop a.mtx ''
+    offer "$shell" '1 16 2 32 4 64 8 ' wave run a.loop a.mtx ''
     offer "$shell" '1 16 2 32 4 64 8 ' wave plan a.loop a.mtx ''
     offer "$shell" '1 16 2 32 4 64 8 ' wave replay a.loop a.mtx ''
     offer "$shell" 'a.loop ' wave replay a.loop a.mtx 2 a.l
     offer "$shell" 'a.loop ' wave show a.l
     offer "$shell" 'a.loop ' wave run a.l
-    offer "$shell" 'a.loop ' wave run a.loop a.mtx 1 a.l
+    offer "$shell" 'a.loop ' wave run a.loop a.mtx 4 a.l
     offer "$shell" '' wave show a.loop ''
 done
 

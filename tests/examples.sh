@@ -6,6 +6,8 @@
 # nothing into a file is a command for the top folder, and the fenced block after it is its standard output, byte
 # for byte; the status has to be 0 and standard error empty. Each loop file of examples/, and each fenced
 # block of docs/use/LANGUAGE.md that begins with `matrix`, is canonical text, so `show` has to print its bytes.
+# Each such command of README.md and examples/ that is one `./wave run` is run with 1, 2, 3, 4 and 64 workers,
+# too, and has to print the same arrays each time.
 # The last line is `N passed, M failed, K skipped`.
 set -u
 
@@ -67,11 +69,34 @@ loops_of() {
     ' "$1"
 }
 
+# with_workers PAGE NUMBER: whether that command, where it is one run, leaves the same arrays with each number of workers.
+with_workers() {
+    page_of=$1
+    number_of=$2
+    # shellcheck disable=SC2046
+    set -- $(cat "$scratch/$number_of.command")
+    case "$* " in
+    *'|'*) return ;;
+    './wave run '*) ;;
+    *) return ;;
+    esac
+    files="$3 $4"
+    shift 5
+    sed 1,3d "$scratch/$number_of.wanted" >"$scratch/arrays"
+    for workers in 1 2 3 4 64; do
+        judge "$page_of, command $number_of with $workers workers" "$scratch/arrays" "./wave run $files $workers $* | sed 1,3d"
+    done
+}
+
 for page in README.md docs/use/*.md examples/*/README.md; do
     commands_of "$page"
     number=1
     while [ -f "$scratch/$number.command" ]; do
         judge "$page, command $number" "$scratch/$number.wanted" "$(cat "$scratch/$number.command")"
+        case $page in
+        docs/*) ;;
+        *) with_workers "$page" "$number" ;;
+        esac
         number=$((number + 1))
     done
     case $page in

@@ -248,8 +248,8 @@ def with_scipy(wave):
         CASES.skip("SciPy", "there is none", 3)
         return
     divided = os.path.join(EXAMPLES, "forward_divided/divided.loop")
-    rows = numpy.array([[2, 0, 0, 0], [1, 3, 0, 0], [0, -2, 4, 0], [5, 0, 1, -1]])
-    b = numpy.array([2, 7, 8, 4])
+    rows = numpy.array([[2, 0, 0, 0], [0, 3, 0, 0], [1, -2, 4, 0], [5, 1, 0, -1]])
+    b = numpy.array([2, 6, 9, 3])
     for form in (scipy.sparse.csr_matrix, scipy.sparse.csc_matrix):
         CASES.same(f"L x = b from {form.__name__}", list(wave.run(divided, form(rows), b)["x"]), [1, 2, 3, 4])
     with scratch() as folder:
@@ -261,7 +261,7 @@ def with_scipy(wave):
 
 def with_program(program):
     if not has_program(program):
-        CASES.skip("the built program", f"there is none at {program}", 7)
+        CASES.skip("the built program", f"there is none at {program}", 8)
         return
     os.environ["WAVE_PROGRAM"] = program
     wave = wave_module()
@@ -272,6 +272,7 @@ def with_program(program):
     for _ in range(100):
         x = wave.run(sweep, matrix, b, x)["x"]
     CASES.judge("100 Gauss-Seidel sweeps", all(abs(got - wanted) < 4 for got, wanted in zip(x, [100000, 200000, 300000, 400000])), str(x))
+    CASES.same("a sweep on 4 workers", wave.run(sweep, matrix, b, x, workers=4), wave.run(sweep, matrix, b, x))
     try:
         wave.run(sweep, matrix, b)
         CASES.judge("a file too few", False)

@@ -4,12 +4,12 @@
     from wave import run
     x = run("divided.loop", a, b)["x"]
 
-`run(loop, matrix, *vectors)` gives a dictionary with each array that the loop writes. The loop is a file
-or a text with its lines; the matrix is a file, a matrix or array of SciPy, or a list of rows; each vector is a
-file, a list or an array of NumPy. Values have to be whole: one with a fraction is refused, and one of an
-unsigned type becomes the signed number of the same 64 bits. A vector may be a row or a column. The arrays
-that are given back are NumPy's where some of those that were passed are NumPy's or SciPy's, and else lists.
-What `wave` refuses is raised as a Fault, whose text has the cause and the remedy.
+`run(loop, matrix, *vectors, workers=1)` gives a dictionary with each array that the loop writes, from a run on 1 to 64
+workers. The loop is a file or a text with its lines; the matrix is a file, a matrix or array of SciPy, or a list of
+rows; each vector is a file, a list or an array of NumPy. Values have to be whole: one with a fraction is refused, and
+one of an unsigned type becomes the signed number of the same 64 bits. A vector may be a row or a column. The arrays
+that are given back are NumPy's where some of those that were passed are NumPy's or SciPy's, and else lists. What
+`wave` refuses is raised as a Fault, whose text has the cause and the remedy.
 
 usage: tools/wave.py LOOP MATRIX [FILE..]     prints the arrays as JSON
 

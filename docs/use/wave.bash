@@ -22,8 +22,7 @@ _wave() {
     fi
     case ${COMP_WORDS[1]}:$COMP_CWORD in
     demo:2) _wave_words "$word" grid lower ;;
-    plan:4 | replay:4) _wave_words "$word" 1 2 4 8 16 32 64 ;;
-    run:4 | demo:4) _wave_words "$word" 1 ;;
+    run:4 | plan:4 | replay:4 | demo:4) _wave_words "$word" 1 2 4 8 16 32 64 ;;
     show:2 | explain:2) _wave_files "$word" ;;
     show:* | explain:* | demo:* | help:* | -*) ;;
     run:* | plan:* | replay:* | check:*) _wave_files "$word" ;;

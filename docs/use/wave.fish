@@ -21,6 +21,5 @@ end
 complete -c wave -f
 complete -c wave -n 'test (count (commandline -opc)) -eq 1' -a 'run show demo plan replay check explain help --help --version'
 complete -c wave -n '__wave_at demo 2' -a 'grid lower'
-complete -c wave -n '__wave_at plan 4; or __wave_at replay 4' -a '1 2 4 8 16 32 64'
-complete -c wave -n '__wave_at run 4; or __wave_at demo 4' -a 1
+complete -c wave -n '__wave_at run 4; or __wave_at plan 4; or __wave_at replay 4; or __wave_at demo 4' -a '1 2 4 8 16 32 64'
 complete -c wave -n __wave_takes_file -F

@@ -8,8 +8,7 @@ if (( CURRENT == 2 )); then
 fi
 case $words[2]:$CURRENT in
 demo:3) compadd -- grid lower ;;
-plan:5 | replay:5) compadd -- 1 2 4 8 16 32 64 ;;
-run:5 | demo:5) compadd -- 1 ;;
+run:5 | plan:5 | replay:5 | demo:5) compadd -- 1 2 4 8 16 32 64 ;;
 show:3 | explain:3) _files ;;
 show:* | explain:* | demo:* | help:* | -*) ;;
 run:* | plan:* | replay:* | check:*) _files ;;

@@ -79,14 +79,8 @@ fn words_of_no_command_are_refused(rt: HostRuntime) -> Result<(), Fail> {
 
 #[test]
 fn commands_that_are_not_built_are_refused(rt: HostRuntime) -> Result<(), Fail> {
-    let table: [(&[&str], &str); 2] = [
-        (&["run", "L", "A", "2", "B"], "not built word 3\n"),
-        (&["demo", "lower", "0", "64"], "not built word 0\n"),
-    ];
-    for (words, line) in table {
-        let outcome = call(&rt, words, &[])?;
-        assert!(rt; outcome.is(13, "", line), "{line}");
-    }
+    let outcome = call(&rt, &["demo", "lower", "0", "64"], &[])?;
+    assert!(rt; outcome.is(13, "", "not built word 0\n"));
     Ok(())
 }
 

@@ -28,7 +28,8 @@ use Rattle.loop_plan.proofs.OnePlan.{one_plan_of}
 use Rattle.wave_report.specs.declared.counts.Summary.{Summary}
 use Rattle.wave_report.specs.SummaryText.{summary_text}
 use Rattle.wave_report.specs.PlanText.{plan_text}
-use Rattle.wave_main.specs.Run.{IsInput, IsWork, Work, WorkPrints, run_arrays, run_text, summary_of, whole_plan_text}
+use Rattle.wave_main.specs.Run.{IsInput, IsWork, WorkPrints, run_arrays, run_text, summary_of, whole_plan_text}
+use Rattle.wave_main.specs.Sound.{Work, core_work}
 use Rattle.std.proofs.lemmas.Bool.{cases_lt}
 use Rattle.core_law.specs.Machine.{State, opening}
 use Rattle.core_run.specs.Orders.{looks_in, passed_in}
@@ -38,7 +39,7 @@ use Rattle.core_machine.specs.Replays.{IsReplay, with_rounds}
 use Rattle.wave_report.specs.LooksText.{looks_text}
 use Rattle.wave_main.specs.Matrices.{vectors_of}
 use Rattle.wave_main.specs.Orders.{order_of, order_numbers}
-use Rattle.wave_main.specs.Replay.{AreLooks, ReplayPrints, core_work, replay_text}
+use Rattle.wave_main.specs.Replay.{AreLooks, ReplayPrints, replay_text}
 use Rattle.wave_main.specs.Stages.{AcceptAll, IsRefusedBy}
 use Rattle.wave_main.specs.Texts.{ExplainPrints, passed_text, relation_lines, said}
 use Rattle.wave_main.proofs.FileLaws.{same_inputs}
@@ -90,7 +91,7 @@ one_work ws files a b x y =
     let i : a.input ≡ b.input = one_input files a.input b.input x.input y.input in
     let w : a.workers ≡ b.workers = same_number (number (word_of ws 3)) a.workers b.workers x.workers y.workers in
     let Of : Input × ℕ → Type 0 = λ s. IsPlanOf s.0.nest s.0.arrays s.0.values s.1 a.plan in
-    let p : a.plan ≡ b.plan = one_plan_of b.input.nest b.input.arrays b.input.values b.workers a.plan b.plan (subst Of (λ k. (i k, w k)) x.plan) y.plan in
+    let p : a.plan ≡ b.plan = one_plan_of b.input.nest b.input.arrays b.input.values b.workers a.plan b.plan (subst Of (λ k. (i k, w k)) x.sound.plan) y.sound.plan in
     λ k. record { input = i k; workers = w k; plan = p k }
 
 -- verdicts that agree, certificates aside, are printed alike

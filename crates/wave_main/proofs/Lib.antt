@@ -11,3 +11,4 @@ pub mod MatrixLaws
 pub mod FewLaws
 pub mod RunLaws
 pub mod Explained
+pub mod TeamLaws

@@ -21,7 +21,8 @@ use Rattle.wave_main.specs.Fetching.{IsInputFault, IsInputFetched}
 use Rattle.wave_main.specs.Files.{Inputs, word_of}
 use Rattle.wave_main.specs.Making.{IsMade, IsMissed}
 use Rattle.wave_main.specs.Planning.{HasText, work_of}
-use Rattle.wave_main.specs.Run.{IsInput, Work, WorkPrints}
+use Rattle.wave_main.specs.Run.{IsInput, WorkPrints}
+use Rattle.wave_main.specs.Sound.{Work}
 use Rattle.wave_main.specs.Stages.{AcceptAll, IsRefusedBy, Accepts, OfProperties, Breaks}
 use Rattle.wave_main.proofs.StageLaws.{none_broken, one_loop}
 
@@ -71,7 +72,7 @@ missed_by held ws form files old new (Err status) built are h = elim h [
 pub printed_of : (ws : List (List ℕ)) (files : Inputs) (workers : ℕ) (text_of : Work → List Verdict → List ℕ) (text : List ℕ) → number (word_of ws 3) ≡ Some workers → HasText files workers text_of text → WorkPrints ws files text text_of
 printed_of ws files workers text_of text many (planned, is, printed) = record {
   work = work_of planned workers;
-  is_work = record { input = is.input; passes = is.passes; workers = many; plan = is.plan };
+  is_work = record { input = is.input; workers = many; sound = is.sound };
   verdicts = planned.verdicts;
   are_verdicts = is.verdicts;
   printed = printed;

@@ -1,8 +1,7 @@
 -- The command that words ask for.
-use Rattle.std.proofs.Common.{ℕ, ◌≡◌, inl, inr, ◌≤◌, Bool, true, false, ◌&&◌, if◌then◌else◌, List, [], ◌∷◌, Option, Some, None, length, refl, sym, ◌∙◌, ap, subst, arith}
+use Rattle.std.proofs.Common.{ℕ, ◌≡◌, inl, inr, ◌≤◌, Bool, true, false, ◌&&◌, List, [], ◌∷◌, Option, Some, None, length, refl, sym, ◌∙◌, ap, subst, arith}
 use Rattle.std.specs.Prelude.{codes, nat_le}
 use Rattle.std.proofs.lemmas.Bool.Decides.{nat_tests}
-use Rattle.std.specs.Str.{bytes_eq}
 use Rattle.std.proofs.lemmas.Slice.Eq.{bytes_eq-Decides}
 use Rattle.wave_words.specs.declared.slot.Slot.TheVariants as slots
 use Rattle.wave_words.specs.declared.form.Form.{Form}
@@ -12,7 +11,7 @@ use Rattle.wave_words.specs.Words.{asked, IsUsageAt}
 use Rattle.wave_words.proofs.WordLaws.{some_asked, asked_has}
 use Rattle.wave_main.specs.declared.status.Status.{Status}
 use Rattle.wave_main.specs.declared.status.Status.TheVariants.{Usage, NotBuilt}
-use Rattle.wave_main.specs.Commands.{all_forms, unbuilt_word, AskForWorkers, IsBuilt, RefusesWords}
+use Rattle.wave_main.specs.Commands.{all_forms, unbuilt_word, AskForWorkers, Begins, IsBuilt, RefusesWords}
 use Rattle.wave_main.specs.Files.{word_of}
 
 pub same_form : (o : Option Form) (f g : Form) → o ≡ Some f → o ≡ Some g → g ≡ f
@@ -27,8 +26,8 @@ built_stands ws f status built x = elim x [
   | inl (place, usage, is) ↦ usage.refused (some_asked all_forms ws f built.asked)
   | inr (g, place, asks, word, is) ↦
       let same : g ≡ f = same_form (asked all_forms ws) f g built.asked asks in
-      let P : Form → Type 0 = λ h. unbuilt_word h ws ≡ Some place in
-      let here : unbuilt_word f ws ≡ Some place = subst P same word in
+      let P : Form → Type 0 = λ h. unbuilt_word h ≡ Some place in
+      let here : unbuilt_word f ≡ Some place = subst P same word in
       let e : None ≡ Some place = sym built.whole ∙ here in cc
 ]
 
@@ -50,8 +49,8 @@ one_word ws a b x y = elim x [
     | inl (q, other, also) ↦ absurd (other.refused (some_asked all_forms ws f asks))
     | inr (g, q, ask, second, also) ↦
         let same : g ≡ f = same_form (asked all_forms ws) f g asks ask in
-        let P : Form → Type 0 = λ h. unbuilt_word h ws ≡ Some q in
-        is ∙ ap NotBuilt (one_some (unbuilt_word f ws) p q word (subst P same second)) ∙ sym also
+        let P : Form → Type 0 = λ h. unbuilt_word h ≡ Some q in
+        is ∙ ap NotBuilt (one_some (unbuilt_word f) p q word (subst P same second)) ∙ sym also
   ]
 ]
 
@@ -108,6 +107,14 @@ two_shown (a ∷ b ∷ c ∷ ws) show = absurd (let e = second_true (fits slots.
 pub run_length : (ws : List (List ℕ)) → IsBuilt ws forms.Run → 4 ≤ length ws
 run_length ws built = long_run ws (asked_has all_forms ws forms.Run built.asked)
 
+first_run : (ws : List (List ℕ)) → has_form ws forms.Run ≡ true → Begins ws (codes "run")
+first_run [] run = absurd cc
+first_run (a ∷ ws) run = (bytes_eq-Decides a (codes "run")).0 (first_true (fits slots.Run a) (is_whole true (slots.Name ∷ slots.Name ∷ slots.Workers ∷ []) ws) run)
+
+-- words of a run begin with `run`
+pub run_begins : (ws : List (List ℕ)) → IsBuilt ws forms.Run → Begins ws (codes "run")
+run_begins ws built = first_run ws (asked_has all_forms ws forms.Run built.asked)
+
 pub plan_length : (ws : List (List ℕ)) → IsBuilt ws forms.Plan → 4 ≤ length ws
 plan_length ws built = long_plan ws (asked_has all_forms ws forms.Plan built.asked)
 
@@ -125,15 +132,6 @@ show_length ws built = two_shown ws (asked_has all_forms ws forms.Show built.ask
 
 -- ---- the number of workers
 
-one_by : (b : Bool) (n : ℕ) → (if b then None else Some n) ≡ None → b ≡ true
-one_by true n e = refl
-one_by false n e = absurd cc
-
-pub one_worker : (ws : List (List ℕ)) → IsBuilt ws forms.Run → number (word_of ws 3) ≡ Some 1
-one_worker ws built =
-    let one : word_of ws 3 ≡ codes "1" = (bytes_eq-Decides (word_of ws 3) (codes "1")).0 (one_by (bytes_eq (word_of ws 3) (codes "1")) 3 built.whole) in
-    ap number one
-
 -- the workers of words are a number from 1 to 64
 abbrev AreWorkers : List ℕ → Type 0
 AreWorkers word = (many : ℕ) × (number word ≡ Some many) × (1 ≤ many) × (many ≤ 64)
@@ -144,6 +142,16 @@ some_between (Some n) e =
     let low = first_true (nat_le 1 n) (nat_le n 64) e in
     let high = second_true (nat_le 1 n) (nat_le n 64) e in
     (n, refl, (grind (arith, nat_tests, low)), (grind (arith, nat_tests, high)))
+
+run_by : (ws : List (List ℕ)) → has_form ws forms.Run ≡ true → AreWorkers (word_of ws 3)
+run_by [] run = absurd cc
+run_by (a ∷ []) run = absurd (let e = second_true (fits slots.Run a) false run in cc)
+run_by (a ∷ b ∷ []) run = absurd (let e = second_true (fits slots.Run a) false run in cc)
+run_by (a ∷ b ∷ c ∷ []) run = absurd (let e = second_true (fits slots.Run a) false run in cc)
+run_by (a ∷ b ∷ c ∷ d ∷ ws) run = some_between (number d) (first_true (fits slots.Workers d) (is_whole true [] ws) (second_true (fits slots.Run a) (fits slots.Workers d && is_whole true [] ws) run))
+
+pub run_workers : (ws : List (List ℕ)) → IsBuilt ws forms.Run → AskForWorkers ws
+run_workers ws built = run_by ws (asked_has all_forms ws forms.Run built.asked)
 
 planned_by : (ws : List (List ℕ)) → has_form ws forms.Plan ≡ true → AreWorkers (word_of ws 3)
 planned_by [] plan = absurd cc

@@ -1,12 +1,13 @@
 -- What the commands print and refuse. Each case of a form is a command.
-use Rattle.std.specs.Prelude.{◌≡◌, ◌⊎◌, ℕ, ◌<◌, ◌≤◌, List, [], ◌∷◌, if◌then◌else◌, length, drop, Option, Some, None, codes}
-use Rattle.std.specs.Str.{bytes_eq}
+use Rattle.std.specs.Prelude.{◌≡◌, ◌⊎◌, ℕ, ◌<◌, ◌≤◌, List, [], ◌∷◌, length, drop, Option, Some, None, codes}
 use Rattle.wave_words.specs.declared.form.Form.{Form}
 use Rattle.wave_words.specs.declared.form.Form.TheVariants as forms
 use Rattle.wave_words.specs.Forms.{number}
 use Rattle.wave_words.specs.Words.{asked, IsUsageAt}
 use Rattle.wave_main.specs.declared.commands.Command.{Command}
 use Rattle.wave_main.specs.declared.commands.Command.TheVariants as commands
+use Rattle.wave_main.specs.declared.commands.Quiet.{Quiet}
+use Rattle.wave_main.specs.declared.commands.Quiet.TheVariants as quiets
 use Rattle.wave_main.specs.declared.status.Status.{Status}
 use Rattle.wave_main.specs.declared.status.Status.TheVariants.{Usage, NotBuilt}
 use Rattle.wave_main.specs.Files.{Inputs, word_of}
@@ -19,15 +20,11 @@ use Rattle.wave_main.specs.Texts.{CheckPrints, ExplainPrints, ShowPrints}
 abbrev pub all_forms : List Form
 all_forms = forms.Run ∷ forms.DemoGrid ∷ forms.DemoLower ∷ forms.Plan ∷ forms.Replay ∷ forms.Check ∷ forms.Explain ∷ forms.Show ∷ []
 
--- the place of the word that asks for what isn't built yet: so far a run has one worker
-abbrev pub unbuilt_word : Form → List (List ℕ) → Option ℕ
-unbuilt_word forms.Run words = if bytes_eq (word_of words 3) (codes "1") then None else Some 3
-unbuilt_word forms.Plan words = None
-unbuilt_word forms.Replay words = None
-unbuilt_word forms.Check words = None
-unbuilt_word forms.Explain words = None
-unbuilt_word forms.Show words = None
-unbuilt_word _ words = Some 0
+-- the place of the word that asks for what isn't built yet
+abbrev pub unbuilt_word : Form → Option ℕ
+unbuilt_word forms.DemoGrid = Some 0
+unbuilt_word forms.DemoLower = Some 0
+unbuilt_word _ = None
 
 -- the place of the first word that names a vector; the words before it that name files are 1, the loop, and 2, the matrix
 abbrev pub first_file : Form → ℕ
@@ -65,24 +62,24 @@ IsText _ words files text = ⊥
 -- the words ask for this command, and all that they ask for is built
 pub record IsBuilt (words : List (List ℕ)) (form : Form) : Type 0 where
   pub asked : asked all_forms words ≡ Some form
-  pub whole : unbuilt_word form words ≡ None
+  pub whole : unbuilt_word form ≡ None
 
 -- the form of a command that was read from words, and the places that it carries
 abbrev pub form_of : Command → Form
 form_of (commands.Run first) = forms.Run
-form_of (commands.Plan first) = forms.Plan
-form_of (commands.Replay first) = forms.Replay
-form_of (commands.Check first) = forms.Check
-form_of commands.Explain = forms.Explain
-form_of commands.Show = forms.Show
+form_of (commands.Quiet (quiets.Plan first)) = forms.Plan
+form_of (commands.Quiet (quiets.Replay first)) = forms.Replay
+form_of (commands.Quiet (quiets.Check first)) = forms.Check
+form_of (commands.Quiet quiets.Explain) = forms.Explain
+form_of (commands.Quiet quiets.Show) = forms.Show
 
 abbrev pub HasPlaces : Command → Type 0
 HasPlaces (commands.Run first) = first ≡ first_file forms.Run
-HasPlaces (commands.Plan first) = first ≡ first_file forms.Plan
-HasPlaces (commands.Replay first) = first ≡ first_file forms.Replay
-HasPlaces (commands.Check first) = first ≡ first_file forms.Check
-HasPlaces commands.Explain = Unit {0}
-HasPlaces commands.Show = Unit {0}
+HasPlaces (commands.Quiet (quiets.Plan first)) = first ≡ first_file forms.Plan
+HasPlaces (commands.Quiet (quiets.Replay first)) = first ≡ first_file forms.Replay
+HasPlaces (commands.Quiet (quiets.Check first)) = first ≡ first_file forms.Check
+HasPlaces (commands.Quiet quiets.Explain) = Unit {0}
+HasPlaces (commands.Quiet quiets.Show) = Unit {0}
 
 pub record IsCommand (words : List (List ℕ)) (command : Command) : Type 0 where
   pub built : IsBuilt words (form_of command)
@@ -112,7 +109,7 @@ Prints words files text =
 abbrev pub RefusesWords : List (List ℕ) → Status → Type 0
 RefusesWords words status =
     ((place : ℕ) × IsUsageAt all_forms words place × (status ≡ Usage place))
-    ⊎ ((form : Form) × (place : ℕ) × (asked all_forms words ≡ Some form) × (unbuilt_word form words ≡ Some place) × (status ≡ NotBuilt place))
+    ⊎ ((form : Form) × (place : ℕ) × (asked all_forms words ≡ Some form) × (unbuilt_word form ≡ Some place) × (status ≡ NotBuilt place))
 
 abbrev pub AreRefused : List (List ℕ) → Type 0
 AreRefused words = (status : Status) × RefusesWords words status

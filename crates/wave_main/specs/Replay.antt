@@ -1,7 +1,6 @@
 -- The text of a replay.
 use Rattle.std.specs.Prelude.{◌≡◌, ◌++◌, ℕ, List}
 use Rattle.core_law.specs.Machine.{opening}
-use Rattle.core_machine.specs.declared.work.Work as core
 use Rattle.core_machine.specs.FitWork.{plain}
 use Rattle.core_machine.specs.Replays.{IsReplay}
 use Rattle.dep_simplify.specs.declared.verdict.Verdict.{Verdict}
@@ -11,11 +10,8 @@ use Rattle.wave_report.specs.SummaryText.{summary_text}
 use Rattle.wave_main.specs.Files.{Inputs}
 use Rattle.wave_main.specs.Matrices.{vectors_of}
 use Rattle.wave_main.specs.Orders.{order_of, order_numbers}
-use Rattle.wave_main.specs.Run.{IsWork, Work, run_arrays, summary_of}
-
--- the work of the core: the loop with its arrays, and the schedule of its plan
-abbrev pub core_work : Work → core.Work
-core_work work = record { nest = work.input.nest; arrays = work.input.arrays; values = work.input.values; sched = work.plan.sched }
+use Rattle.wave_main.specs.Run.{IsWork, run_arrays, summary_of}
+use Rattle.wave_main.specs.Sound.{Work, core_work}
 
 -- the numbers of looks, and of those that passed, of the events in an order of workers and in the rounds after it
 abbrev pub AreLooks : Work → List ℕ → ℕ → ℕ → Type 0

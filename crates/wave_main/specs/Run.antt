@@ -1,13 +1,11 @@
 -- What words and files are: a loop with its arrays, the workers and their plan; and the texts of a run and of a plan.
 use Rattle.std.specs.Prelude.{◌≡◌, ◌++◌, ℕ, List, Some, length, count_by}
 use Rattle.loop_core.specs.Sequence.{sequential}
-use Rattle.index_props.specs.Meanings.{Passes}
 use Rattle.access_bounds.specs.Accepted.{IsAccepted}
 use Rattle.dep_simplify.specs.declared.verdict.Verdict.{Verdict}
 use Rattle.dep_simplify.specs.Verdicts.{AreVerdicts}
 use Rattle.plan_build.specs.declared.build.Built.{Built}
 use Rattle.loop_plan.specs.Numbers.{is_dropped, is_covered, is_kept, tasks_in, waits_in}
-use Rattle.loop_plan.specs.Planned.{IsPlanOf}
 use Rattle.wave_report.specs.declared.counts.Summary.{Summary}
 use Rattle.wave_report.specs.ArrayText.{arrays_text}
 use Rattle.wave_report.specs.PlanText.{plan_text}
@@ -17,6 +15,7 @@ use Rattle.wave_main.specs.declared.input.Input.{Input}
 use Rattle.wave_main.specs.Binding.{data_arrays, index_arrays}
 use Rattle.wave_main.specs.Files.{Inputs, word_of}
 use Rattle.wave_main.specs.Loops.{IsLoop}
+use Rattle.wave_main.specs.Sound.{IsSound, Work}
 
 -- the loop of the files, none of whose accesses can leave its array, with its arrays
 pub record IsInput (files : Inputs) (input : Input) : Type 0 where
@@ -25,19 +24,12 @@ pub record IsInput (files : Inputs) (input : Input) : Type 0 where
   pub arrays : input.arrays ≡ index_arrays input.nest.decls files
   pub values : input.values ≡ data_arrays input.nest.decls files
 
--- a work: a loop with its arrays, and its plan for a number of workers
-pub record Work : Type 0 where
-  pub input : Input
-  pub workers : ℕ
-  pub plan : Built
-
--- the work that words and files determine: the arrays pass the declared properties, and the plan is that of the
--- rows that depend on each other
+-- the work that words and files determine: the loop and the arrays of the files, the number of workers of the words,
+-- and the plan that makes it sound
 pub record IsWork (words : List (List ℕ)) (files : Inputs) (work : Work) : Type 0 where
   pub input : IsInput files work.input
-  pub passes : Passes work.input.nest.props work.input.arrays
   pub workers : number (word_of words 3) ≡ Some work.workers
-  pub plan : IsPlanOf work.input.nest work.input.arrays work.input.values work.workers work.plan
+  pub sound : IsSound work
 
 -- a loop in numbers: those of the verdicts on its relations, of its rows and entries, and of its plan
 abbrev pub summary_of : Input → List Verdict → Built → Summary

@@ -5,12 +5,13 @@ ghost use Rattle.wave_words.specs.declared.form.Form.{Form};
 ghost use Rattle.wave_main.specs.declared.status.Status.{Status};
 ghost use Rattle.wave_main.specs.Commands.{IsText};
 ghost use Rattle.wave_main.specs.Files.{Inputs};
-ghost use Rattle.wave_main.specs.Replay.{core_work};
-ghost use Rattle.wave_main.specs.Run.{IsWork, Work};
-ghost use Rattle.wave_main.specs.Sound.{IsSound};
+ghost use Rattle.wave_main.specs.Headline.{GoesOn, KeepsOrder};
+ghost use Rattle.wave_main.specs.Run.{IsWork};
+ghost use Rattle.wave_main.specs.Sound.{IsSound, Work, core_work};
 ghost use Rattle.wave_main.specs.Stages.{Calls, IsRefusedBy, Stage};
 
 use access_bounds::laws::accesses_are_inside;
+use core_machine::laws::{dependences_are_ordered, some_worker_steps};
 use loop_plan::laws::plans_fit_the_dependences;
 
 /// A stage refuses files with one status.
@@ -34,6 +35,22 @@ pub fn sound_works_are_fit()
 {
     accesses_are_inside();
     plans_fit_the_dependences();
+}
+
+/// In each reached state of a sound work dependent rows are ordered.
+pub fn sound_works_keep_order()
+    ensures { (work : Work) → IsSound work → KeepsOrder work }
+{
+    sound_works_are_fit();
+    dependences_are_ordered();
+}
+
+/// In each reached state of a sound work that isn't at its end some worker can step.
+pub fn sound_works_go_on()
+    ensures { (work : Work) → IsSound work → GoesOn work }
+{
+    sound_works_are_fit();
+    some_worker_steps();
 }
 
 /// Words and files determine one work.

@@ -18,7 +18,7 @@ ghost use Rattle.wave_main.specs.Making.{IsMade, IsMissed};
 ghost use Rattle.wave_main.specs.Matrices.{vectors_of};
 ghost use Rattle.wave_main.specs.Orders.{order_of};
 ghost use Rattle.wave_main.specs.Planning.{work_of};
-ghost use Rattle.wave_main.specs.Replay.{AreLooks, core_work, replay_text};
+ghost use Rattle.wave_main.specs.Replay.{AreLooks, replay_text};
 ghost use Rattle.wave_main.specs.Replaying.{HasEnd, HasReplay, IsOrdered};
 ghost use Rattle.wave_main.specs.Run.{IsInput};
 ghost use Rattle.wave_main.specs.Sound.{IsSound};
@@ -30,7 +30,7 @@ use crate::laws::sound_works_are_fit;
 use crate::order::workers_of_order;
 use crate::status::Status;
 use crate::words::workers_of;
-use crate::work::{Planned, summary_of, with_plan};
+use crate::work::{Planned, core_work, summary_of, with_plan};
 use core_machine::cores::{Core, CoreEnd};
 use core_machine::work::Work;
 use loop_core::nest::Nest;
@@ -88,24 +88,6 @@ fn ordered_input(
     let order = workers_of_order(alloc, entries.as_slice(), workers)?;
     check_properties(alloc, &input)?;
     Ok(Ordered { input, order })
-}
-
-// The work of the core: the loop with its arrays, and the schedule of its plan.
-fn core_work(alloc: Global, planned: Planned) -> Result<Work, Memory>
-    ensures { IfOk result (λ work. work ≡ core_work (work_of planned 0)) }
-{
-    let Planned {
-        input,
-        verdicts: _,
-        plan,
-    } = planned;
-    let nest = input.nest.nest().copy(alloc)?;
-    Ok(Work {
-        nest,
-        arrays: input.arrays,
-        values: input.values,
-        sched: plan.sched,
-    })
 }
 
 // Puts the looks and the arrays of a replay after a text.

@@ -4,19 +4,22 @@ ghost use Rattle.loop_core.specs.Lengths.{HaveLengths};
 ghost use Rattle.index_props.specs.Meanings.{Passes};
 ghost use Rattle.wave_main.specs.Fetching.{AreInputs};
 ghost use Rattle.wave_main.specs.Files.{Inputs};
-ghost use Rattle.wave_main.specs.Planning.{IsPlanned, IsPlanFor};
+ghost use Rattle.wave_main.specs.Planning.{IsPlanned, IsPlanFor, work_of};
 ghost use Rattle.wave_main.specs.Run.{summary_of as numbers_of};
+ghost use Rattle.wave_main.specs.Sound.{IsSound, core_work as core_of};
 ghost use Rattle.wave_main.specs.Stages.{AcceptAll, IsRefusedBy, input_stages};
 
 use crate::fetch::InputBytes;
 use crate::input::{Input, input_of};
 use crate::status::Status;
+use core_machine::work::Work;
 use dep_simplify::verdict::Verdict;
 use dep_simplify::verdicts::verdicts;
 use loop_plan::numbers::{count_tasks, count_verdicts};
 use loop_plan::plan::plan_loop;
 use plan_build::build::Built;
 use sqlite_items::Items;
+use std::alloc::Global;
 use std::thread::Threads;
 use wave_base::types::Memory;
 use wave_report::counts::Summary;
@@ -61,12 +64,31 @@ pub fn planned_of<R: AllocGlobal + Threads + Sync>(
     requires few_files { first + length files.vectors.items < 2 ^ 32 }
     requires some { 1 ≤ workers }
     requires few { workers ≤ 64 }
-    ensures { (inputs : Inputs) → AreInputs inputs files → inputs.first ≡ first → inputs.skips ≡ 0
+    ensures answer { (inputs : Inputs) → AreInputs inputs files → inputs.first ≡ first → inputs.skips ≡ 0
         → MatchResult result (λ planned. IsPlanned inputs workers planned × AcceptAll input_stages inputs) (λ status. (status ≡ Status.Memory) ⊎ IsRefusedBy input_stages inputs status) }
+    ensures sound { IfOk result (λ planned. IsSound (work_of planned workers)) }
 {
     let input = input_of(rt.alloc(), files, first)?;
     let planned = with_plan(rt, input, workers)?;
     Ok(planned)
+}
+
+/// What the workers of a work run: its loop with its arrays, and the schedule of its plan.
+pub fn core_work(alloc: Global, planned: Planned) -> Result<Work, Memory>
+    ensures { IfOk result (λ work. work ≡ core_of (work_of planned 0)) }
+{
+    let Planned {
+        input,
+        verdicts: _,
+        plan,
+    } = planned;
+    let nest = input.nest.nest().copy(alloc)?;
+    Ok(Work {
+        nest,
+        arrays: input.arrays,
+        values: input.values,
+        sched: plan.sched,
+    })
 }
 
 /// The numbers of a work.

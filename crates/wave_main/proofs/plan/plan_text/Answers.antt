@@ -8,7 +8,7 @@ use Rattle.wave_main.proofs.plan.plan_text.Goals as goal
 
 pub returns : goal.returns
 returns g c inputs are same none =
-    let made = c.in_ok-planned.ensures inputs are same none in
+    let made = c.in_ok-planned.ensures.answer inputs are same none in
     let plan = c.in_ok-planned.planned.plan in (
       (
         c.in_ok-planned.planned,

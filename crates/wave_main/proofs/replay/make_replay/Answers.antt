@@ -33,7 +33,7 @@ of_replay ws files workers (Ok text) many (has, accept) =
       subst (λ n. AcceptAll (replay_stages n) files) (sym same) accept,
       record {
         work = work_of has.planned workers;
-        is_work = record { input = has.is_planned.input; passes = has.is_planned.passes; workers = many; plan = has.is_planned.plan };
+        is_work = record { input = has.is_planned.input; workers = many; sound = has.is_planned.sound };
         verdicts = has.planned.verdicts;
         are_verdicts = has.is_planned.verdicts;
         looks = has.looks;

@@ -1,19 +1,5 @@
-use Rattle.std.proofs.Common.{ℕ, ◌∙◌, ◌++◌, ap}
-use Rattle.std.specs.Prelude.{Vec}
-use Rattle.std.specs.declared.alloc.Global.{Global}
-use Rattle.wave_report.specs.declared.counts.Summary.{Summary}
-use Rattle.wave_report.specs.SummaryText.{summary_text}
-use Rattle.wave_main.specs.Run.{run_arrays}
 use Rattle.wave_main.proofs.run.run_text.Goals as goal
 
 pub returns : goal.returns
 returns g c inputs are same none =
-    let made = c.in_ok-planned.ensures inputs are same none in (
-      (
-        c.in_ok-planned.planned,
-        made.0,
-        ap (λ (v : Vec ℕ Global). v.items) c.into_bytes.ensures.value ∙ c.in_ok-put_ran.ensures ∙ ap (λ t. t ++ run_arrays c.in_ok-planned.planned.input) c.in_ok-text.ensures
-            ∙ ap (λ (s : Summary). summary_text s ++ run_arrays c.in_ok-planned.planned.input) c.in_ok-numbers.ensures,
-      ),
-      made.1,
-    )
+    let made = c.in_ok-planned.ensures.answer inputs are same none in ((c.in_ok-planned.planned, made.0, c.in_ok-text.ensures), made.1)

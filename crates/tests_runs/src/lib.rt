@@ -1,0 +1,13 @@
+//! Tests of runs with several workers.
+#![tactic(auto)]
+
+#[cfg(test)]
+mod calls;
+#[cfg(test)]
+mod gates;
+#[cfg(test)]
+mod meets;
+#[cfg(test)]
+mod passes;
+#[cfg(test)]
+mod runs;
