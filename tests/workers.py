@@ -5,8 +5,8 @@ usage: tests/workers.py [PROGRAM]
 
 Nothing makes threads meet at a chosen moment, so there are some hundred runs of a grid whose tasks wait for each
 other. Then the program is started by a user who may have no second thread (`ulimit -u`), and by one who may have a
-few. What needs the program, or a limit on threads that holds, is skipped where it isn't there. The last line is
-`N passed, M failed, K skipped`.
+few, and the deepest loop is run on 64 workers. What needs the program, or a limit on threads that holds, is skipped
+where it isn't there. The last line is `N passed, M failed, K skipped`.
 """
 import os
 import resource
@@ -107,10 +107,25 @@ def without_threads(program, words, folder, first, name):
         CASES.judge(f"{name}, with at most {limit} threads", got == first, f"status {got[0]}, {got[2]}{got[1][:200]}")
 
 
+def deepest_loop():
+    """As many nested blocks and parentheses as the limits on lines leave."""
+    text = ["matrix a csr", "vector x n zero", "loop i"] + ["when 0 <= i"] * 197
+    return "\n".join(text + ["set x[i]=" + "(" * 95 + "7" + ")" * 95] + ["end"] * 198) + "\n"
+
+
+def deep(program, folder):
+    """A thread's stack holds the deepest loop."""
+    rows = 130
+    written(folder, "deep.loop", deepest_loop())
+    written(folder, "diagonal.mtx", HEAD + f"{rows} {rows} {rows}\n" + "".join(f"{row} {row} 1\n" for row in range(1, rows + 1)))
+    wanted = f"tasks 64 cross 0 waits 0\narray x {rows}\n" + "7\n" * rows
+    right(program, ["run", "deep.loop", "diagonal.mtx", "64"], folder, wanted, "the deepest loop on 64 workers")
+
+
 def main():
     program = program_of(sys.argv)
     if not has_program(program):
-        CASES.skip("runs", f"there is no program at {program}", 8)
+        CASES.skip("runs", f"there is no program at {program}", 9)
         return CASES.end()
     start = [(7 * row) % 23 - 11 for row in range(SIDE * SIDE)]
     wanted = f"array x {SIDE * SIDE}\n" + "".join(f"{entry}\n" for entry in sweep(start, SIDE))
@@ -125,6 +140,7 @@ def main():
             first = right(program, words, folder, wanted, name)
             many(program, words, folder, first, name)
             without_threads(program, words, folder, first, name)
+        deep(program, folder)
     return CASES.end()
 
 
