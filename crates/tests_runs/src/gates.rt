@@ -1,4 +1,6 @@
 // Gates that count who passes, and that hold workers back until they meet.
+ghost use Rattle.std.specs.Prelude.{◌≤◌};
+
 use std::alloc::Global;
 use std::hint;
 use std::sync::atomic::{AtomicU32, Ordering};
