@@ -6,6 +6,12 @@ mod events;
 #[cfg(test)]
 mod literal;
 #[cfg(test)]
+mod loops;
+#[cfg(test)]
+mod made;
+#[cfg(test)]
+mod matrices;
+#[cfg(test)]
 mod nest;
 #[cfg(test)]
 mod orders;

@@ -203,7 +203,8 @@ impl Literal {
         }
     }
 
-    fn has_ended(&self) -> bool {
+    /// Whether all workers are at their ends.
+    pub fn has_ended(&self) -> bool {
         for worker in 0..self.seats.len() {
             if self.next(worker).is_some() {
                 return false;
