@@ -5,7 +5,6 @@
 # milliseconds of the start, in which scripts are unrolled, and of the replay.
 #
 # usage: bench/core.sh [SIDE [WORKERS [EVENTS [TURNS]]]]      (400 4 1400000 3)
-# Ends with 1 where a replay takes more than half a second.
 set -eu
 cd "$(dirname "$0")/.."
 side=${1:-400}
@@ -24,7 +23,6 @@ fi
 took() { sed -n "s/^$1 //p" "$work/time"; }
 least() { if [ -z "$1" ] || [ "$2" -lt "$1" ]; then echo "$2"; else echo "$1"; fi; }
 
-status=0
 for order in 0 "$events"; do
     start='' replay='' turn=0
     while [ "$turn" -lt "$turns" ]; do
@@ -36,6 +34,4 @@ for order in 0 "$events"; do
     echo "$order events, then rounds of $workers workers"
     cat "$work/out"
     echo "start $((start / 1000000)) ms, replay $((replay / 1000000)) ms"
-    [ "$replay" -le 500000000 ] || status=1
 done
-exit "$status"
