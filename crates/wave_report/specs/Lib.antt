@@ -1,4 +1,5 @@
 pub mod ArrayText
+pub mod DemoText
 pub mod Line
 pub mod LooksText
 pub mod PlanText

@@ -1,8 +1,9 @@
-//! The printed texts of relations, summaries, plans, replays and arrays.
+//! The printed texts of relations, summaries, plans, replays, arrays and demos.
 #![tactic(auto)]
 
 pub mod arrays;
 pub mod counts;
+pub mod demo;
 pub mod laws;
 pub mod looks;
 mod pieces;
