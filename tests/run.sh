@@ -84,7 +84,7 @@ add() {
 for script in examples.sh launcher.sh completions.sh; do
     add sh "$script"
 done
-for script in mistakes.py tools.py pages.py workers.py; do
+for script in mistakes.py tools.py pages.py workers.py demos.py; do
     if command -v python3 >/dev/null 2>&1; then
         add python3 "$script"
     else

@@ -1,8 +1,10 @@
-//! Tests of runs with several workers.
+//! Tests of runs and demos with several workers.
 #![tactic(auto)]
 
 #[cfg(test)]
 mod calls;
+#[cfg(test)]
+mod demos;
 #[cfg(test)]
 mod gates;
 #[cfg(test)]

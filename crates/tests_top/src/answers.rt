@@ -78,13 +78,6 @@ fn words_of_no_command_are_refused(rt: HostRuntime) -> Result<(), Fail> {
 }
 
 #[test]
-fn commands_that_are_not_built_are_refused(rt: HostRuntime) -> Result<(), Fail> {
-    let outcome = call(&rt, &["demo", "lower", "0", "64"], &[])?;
-    assert!(rt; outcome.is(13, "", "not built word 0\n"));
-    Ok(())
-}
-
-#[test]
 fn the_first_faulty_file_is_named(rt: HostRuntime) -> Result<(), Fail> {
     let real = "%%MatrixMarket matrix coordinate real general\n3 3 0\n";
     let wide = "%%MatrixMarket matrix coordinate integer general\n2 3 0\n";

@@ -3,7 +3,7 @@ use Rattle.std.proofs.Common.{ℕ, ◌≡◌, ◌≢◌, ◌⊎◌, inl, inr, Li
 use Rattle.std.specs.Prelude.{◌↔◌}
 use Rattle.wave_io.specs.Written.{grown}
 use Rattle.wave_main.specs.declared.status.Status.{Status}
-use Rattle.wave_main.specs.declared.status.Status.TheVariants.{Done, Usage, ReadFault, LoopText, LoopName, LoopLimit, Unbounded, MatrixText, Shape, Property, NotBuilt, WriteFault, Memory}
+use Rattle.wave_main.specs.declared.status.Status.TheVariants.{Done, Usage, ReadFault, LoopText, LoopName, LoopLimit, Unbounded, MatrixText, Shape, Property, WriteFault, Memory}
 use Rattle.wave_main.specs.Answers.{Call, Changes, Ends, IsRefusal, IsSettled, AreFilesOf, HasNoFault, IsAnswer}
 use Rattle.wave_main.specs.Commands.{Prints, Refuses}
 use Rattle.wave_main.proofs.AnswerLaws.{one_refusal, no_refusal, one_text, told_prints, told_refuses}
@@ -38,7 +38,6 @@ refused_by ws files changes (Unbounded line bracket side) (calls, same) settled 
 refused_by ws files changes (MatrixText word cause) (calls, same) settled = called ws files (MatrixText word cause) calls
 refused_by ws files changes (Shape kind) (calls, same) settled = called ws files (Shape kind) calls
 refused_by ws files changes (Property property first second) (calls, same) settled = called ws files (Property property first second) calls
-refused_by ws files changes (NotBuilt word) (calls, same) settled = called ws files (NotBuilt word) calls
 
 keeps_by : (ws files : List (List ℕ)) (changes : Changes) (status : Status) → Ends ws files changes status
     → status ≢ Done → status ≢ WriteFault → changes.after ≡ changes.before
@@ -54,7 +53,6 @@ keeps_by ws files changes (Unbounded line bracket side) ends not_done not_fault 
 keeps_by ws files changes (MatrixText word cause) ends not_done not_fault = ends.1
 keeps_by ws files changes (Shape kind) ends not_done not_fault = ends.1
 keeps_by ws files changes (Property property first second) ends not_done not_fault = ends.1
-keeps_by ws files changes (NotBuilt word) ends not_done not_fault = ends.1
 
 complete_by : (call : Call) (files : List (List ℕ)) (status : Status) → Ends call.words files call.changes status
     → ((why : Status) → ¬ Refuses call.words files why) → HasNoFault call → (status ≡ Done) ⊎ (status ≡ Memory)
@@ -70,7 +68,6 @@ complete_by call files (Unbounded line bracket side) ends none fine = absurd (no
 complete_by call files (MatrixText word cause) ends none fine = absurd (none (MatrixText word cause) ends.0)
 complete_by call files (Shape kind) ends none fine = absurd (none (Shape kind) ends.0)
 complete_by call files (Property property first second) ends none fine = absurd (none (Property property first second) ends.0)
-complete_by call files (NotBuilt word) ends none fine = absurd (none (NotBuilt word) ends.0)
 
 pub answer_of : (call : Call) → (files : List (List ℕ)) × AreFilesOf call.held call.words files × Ends call.words files call.changes call.status → IsAnswer call
 answer_of call (files, are, ends) =
@@ -84,7 +81,7 @@ answer_of call (files, are, ends) =
       write_fault = λ is. let cut = subst P is ends in cut.0;
       read_fault = λ word is. let fault = subst P is ends in fault.0;
       keeps = keeps_by call.words files call.changes call.status ends;
-      complete = λ form built told are_told none fine. complete_by call files call.status ends (λ why calls. none why (told_refuses call.held call.words files told why are are_told calls)) fine;
+      complete = λ form asks told are_told none fine. complete_by call files call.status ends (λ why calls. none why (told_refuses call.held call.words files told why are are_told calls)) fine;
       prints = λ is told are_told text prints.
           let done = subst P is ends in
           done.2 ∙ ap (grown call.changes.before) (one_text call.words files done.0 text done.1 (told_prints call.held call.words files told text are are_told prints));

@@ -4,7 +4,7 @@ use Rattle.std.specs.Prelude.{Result, Ok, Err, IsErrAnd, IfErr, OnOk}
 use Rattle.wave_io.specs.Faults.{Rose}
 use Rattle.wave_io.specs.Written.{grown, TookPart}
 use Rattle.wave_main.specs.declared.status.Status.{Status}
-use Rattle.wave_main.specs.declared.status.Status.TheVariants.{Done, Usage, ReadFault, LoopText, LoopName, LoopLimit, Unbounded, MatrixText, Shape, Property, NotBuilt, WriteFault, Memory}
+use Rattle.wave_main.specs.declared.status.Status.TheVariants.{Done, Usage, ReadFault, LoopText, LoopName, LoopLimit, Unbounded, MatrixText, Shape, Property, WriteFault, Memory}
 use Rattle.wave_main.specs.Answers.{AreFilesOf, Changes, Ends, status_of}
 use Rattle.wave_main.specs.Commands.{Refuses, RefusesWords, inputs_of, stages}
 use Rattle.wave_main.specs.Making.{IsMade, IsMissed}
@@ -23,21 +23,16 @@ fault_ends ws files changes Memory is calls same = same
 fault_ends ws files changes Done is calls same = absurd is
 fault_ends ws files changes (Usage word) is calls same = absurd is
 fault_ends ws files changes (ReadFault word) is calls same = absurd is
-fault_ends ws files changes (NotBuilt word) is calls same = absurd is
 fault_ends ws files changes WriteFault is calls same = absurd is
 
 pub words_end : (ws files : List (List ℕ)) (changes : Changes) (status : Status) → RefusesWords ws status → changes.after ≡ changes.before → Ends ws files changes status
-words_end ws files changes status calls same =
-    let P : Status → Type 0 = λ s. Ends ws files changes s in
-    elim calls [
-      | inl (place, usage, is) ↦ subst P (sym is) (inl (inl (place, usage, refl)), same)
-      | inr (form, place, asks, word, is) ↦ subst P (sym is) (inl (inr (form, place, asks, word, refl)), same)
-    ]
+words_end ws files changes status (place, usage, is) same =
+    let P : Status → Type 0 = λ s. Ends ws files changes s in subst P (sym is) (inl (place, usage, refl), same)
 
 refusal_ends : (ws files : List (List ℕ)) (changes : Changes) (status : Status) → Refuses ws files status → changes.after ≡ changes.before → Ends ws files changes status
 refusal_ends ws files changes status calls same = elim calls [
   | inl words ↦ words_end ws files changes status words same
-  | inr (form, built, by) ↦ fault_ends ws files changes status (refused_faulty (stages form ws) (inputs_of form files) status by) (inr (form, built, by)) same
+  | inr (form, asks, by) ↦ fault_ends ws files changes status (refused_faulty (stages form ws) (inputs_of form files) status by) (inr (form, asks, by)) same
 ]
 
 abbrev Ended : (List ℕ → Option (List ℕ)) → List (List ℕ) → Changes → Status → Type 0

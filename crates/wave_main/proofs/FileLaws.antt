@@ -11,7 +11,7 @@ use Rattle.std.proofs.lemmas.List.{length-append, length-replicate, length-drop,
 use Rattle.wave_words.specs.declared.form.Form.{Form}
 use Rattle.wave_main.specs.declared.fetch.InputBytes.{InputBytes}
 use Rattle.wave_main.specs.Answers.{AreFilesOf, AreTold}
-use Rattle.wave_main.specs.Commands.{IsBuilt, IsFilePlace, first_file, inputs_of, skipped}
+use Rattle.wave_main.specs.Commands.{IsAsked, IsFilePlace, first_file, inputs_of, reads_files, skipped}
 use Rattle.wave_main.specs.Fetching.{IsInputFetched, IsInputFault, IsFaultFrom}
 use Rattle.wave_main.specs.Files.{Inputs, MayBe, IsFetched, IsOfFile, AreFetched, MayBeAll, AreOfFiles, word_of}
 use Rattle.wave_main.proofs.WordLaws.{one_form}
@@ -85,20 +85,20 @@ input_file held ws first files got is place below which =
       ]
     ]
 
-pub input_files : (held : List ℕ → Option (List ℕ)) (ws : List (List ℕ)) (form : Form) (files : List (List ℕ)) (got : InputBytes) → IsBuilt ws form → IsInputFetched held ws (first_file form) files got → AreFilesOf held ws files
-input_files held ws form files got built is = record {
+pub input_files : (held : List ℕ → Option (List ℕ)) (ws : List (List ℕ)) (form : Form) (files : List (List ℕ)) (got : InputBytes) → IsAsked ws form → IsInputFetched held ws (first_file form) files got → AreFilesOf held ws files
+input_files held ws form files got asks is = record {
   one_each = is.one_each;
-  may_be = λ place (other, also, below, which).
-      let same = one_form ws form other built also in
+  may_be = λ place (other, also, reads, below, which).
+      let same = one_form ws form other asks also in
       let P : Form → Type 0 = λ f. (place ≡ 1) ⊎ (place ≡ 2) ⊎ (first_file f ≤ place) in
       input_file held ws (first_file form) files got is place below (subst P same which);
 }
 
-pub loop_files : (held : List ℕ → Option (List ℕ)) (ws : List (List ℕ)) (form : Form) (bytes : List ℕ) → IsBuilt ws form → length ws ≡ 2 → first_file form ≡ 2 → MayBe (held (word_of ws 1)) bytes → AreFilesOf held ws ([] ∷ bytes ∷ [])
-loop_files held ws form bytes built two after may = record {
+pub loop_files : (held : List ℕ → Option (List ℕ)) (ws : List (List ℕ)) (form : Form) (bytes : List ℕ) → IsAsked ws form → length ws ≡ 2 → first_file form ≡ 2 → MayBe (held (word_of ws 1)) bytes → AreFilesOf held ws ([] ∷ bytes ∷ [])
+loop_files held ws form bytes asks two after may = record {
   one_each = sym two;
-  may_be = λ place (other, also, below, which).
-      let same = one_form ws form other built also in
+  may_be = λ place (other, also, reads, below, which).
+      let same = one_form ws form other asks also in
       let P : Form → Type 0 = λ f. (place ≡ 1) ⊎ (place ≡ 2) ⊎ (first_file f ≤ place) in
       let Q : ℕ → Type 0 = λ p. MayBe (held (word_of ws p)) (word_of ([] ∷ bytes ∷ []) p) in
       elim (subst P same which) [
@@ -125,7 +125,7 @@ some_at held (w ∷ ws) (suc i) h = some_at held ws i (omega (arith, h))
 pub some_files : (held : List ℕ → Option (List ℕ)) (ws : List (List ℕ)) → (files : List (List ℕ)) × AreFilesOf held ws files
 some_files held ws = (
   map (λ w. bytes_or (held w)) ws,
-  record { one_each = length-map ws (λ w. bytes_or (held w)); may_be = λ place (form, built, below, which). some_at held ws place below },
+  record { one_each = length-map ws (λ w. bytes_or (held w)); may_be = λ place (form, asks, reads, below, which). some_at held ws place below },
 )
 
 -- ---- told files are those
@@ -149,27 +149,27 @@ by_order P a b f g = by_cases (nat_lt a b) refl
     by_cases true e = f (grind (arith, nat_tests, e))
     by_cases false e = g (grind (arith, nat_tests, e))
 
-same_place : (held : List ℕ → Option (List ℕ)) (ws files told : List (List ℕ)) (form : Form) → IsBuilt ws form → AreFilesOf held ws files → AreTold held ws told
+same_place : (held : List ℕ → Option (List ℕ)) (ws files told : List (List ℕ)) (form : Form) → IsAsked ws form → reads_files form ≡ true → AreFilesOf held ws files → AreTold held ws told
     → (place : ℕ) → (place ≡ 1) ⊎ (place ≡ 2) ⊎ (first_file form ≤ place) → word_of files place ≡ word_of told place
-same_place held ws files told form built are is place which =
+same_place held ws files told form asks reads are is place which =
     by_order (word_of files place ≡ word_of told place) place (length ws)
-    (λ below. same_file held ws files told are is place (form, built, below, which))
+    (λ below. same_file held ws files told are is place (form, asks, reads, below, which))
     (λ past. past_end files place (omega (arith, past, are.one_each)) ∙ sym (past_end told place (omega (arith, past, is.one_each))))
 
-same_vectors : (held : List ℕ → Option (List ℕ)) (ws files told : List (List ℕ)) (form : Form) → IsBuilt ws form → AreFilesOf held ws files → AreTold held ws told → drop (first_file form) files ≡ drop (first_file form) told
-same_vectors held ws files told form built are is =
+same_vectors : (held : List ℕ → Option (List ℕ)) (ws files told : List (List ℕ)) (form : Form) → IsAsked ws form → reads_files form ≡ true → AreFilesOf held ws files → AreTold held ws told → drop (first_file form) files ≡ drop (first_file form) told
+same_vectors held ws files told form asks reads are is =
     let n = first_file form in
     let a = length-drop n files in
     let b = length-drop n told in
     ext_get_or [] (drop n files) (drop n told) (omega (arith, a, b, are.one_each, is.one_each)) (λ i h.
-    get_or-drop n files i [] ∙ same_place held ws files told form built are is (n + i) (inr (inr (omega arith))) ∙ sym (get_or-drop n told i []))
+    get_or-drop n files i [] ∙ same_place held ws files told form asks reads are is (n + i) (inr (inr (omega arith))) ∙ sym (get_or-drop n told i []))
 
 -- the files of a command are those that are told
-pub same_inputs : (held : List ℕ → Option (List ℕ)) (ws files told : List (List ℕ)) (form : Form) → IsBuilt ws form → AreFilesOf held ws files → AreTold held ws told → inputs_of form files ≡ inputs_of form told
-same_inputs held ws files told form built are is =
-    let l = same_place held ws files told form built are is 1 (inl refl) in
-    let m = same_place held ws files told form built are is 2 (inr (inl refl)) in
-    let v = same_vectors held ws files told form built are is in
+pub same_inputs : (held : List ℕ → Option (List ℕ)) (ws files told : List (List ℕ)) (form : Form) → IsAsked ws form → reads_files form ≡ true → AreFilesOf held ws files → AreTold held ws told → inputs_of form files ≡ inputs_of form told
+same_inputs held ws files told form asks reads are is =
+    let l = same_place held ws files told form asks reads are is 1 (inl refl) in
+    let m = same_place held ws files told form asks reads are is 2 (inr (inl refl)) in
+    let v = same_vectors held ws files told form asks reads are is in
     λ k. record { loop_file = l k; matrix = m k; vectors = v k; first = first_file form; skips = skipped form }
 
 -- ---- names among the words of a call

@@ -12,3 +12,4 @@ pub mod FewLaws
 pub mod RunLaws
 pub mod Explained
 pub mod TeamLaws
+pub mod DemoLaws

@@ -1,5 +1,5 @@
 -- What was fetched of a command's files, and the text that it makes of them.
-use Rattle.std.proofs.Common.{ℕ, ◌≡◌, ◌⊎◌, inl, inr, ◌<◌, ◌≤◌, List, Option, Some, length, refl, subst}
+use Rattle.std.proofs.Common.{ℕ, true, ◌≡◌, ◌⊎◌, inl, inr, ◌<◌, ◌≤◌, List, Option, Some, length, refl, subst}
 use Rattle.std.specs.Prelude.{Result, Ok, Err, Vec, IfOk, IfErr, MatchResult}
 use Rattle.std.specs.declared.alloc.Global.{Global}
 use Rattle.wave_io.specs.Faults.{Rose}
@@ -16,7 +16,7 @@ use Rattle.wave_main.specs.declared.status.Status.{Status}
 use Rattle.wave_main.specs.declared.status.Status.TheVariants.{ReadFault, Memory, Property}
 use Rattle.wave_main.specs.Answers.{AreFilesOf}
 use Rattle.wave_main.specs.Binding.{index_arrays}
-use Rattle.wave_main.specs.Commands.{IsBuilt, IsText, first_file, inputs_of, stages}
+use Rattle.wave_main.specs.Commands.{IsAsked, IsText, first_file, inputs_of, reads_files, stages}
 use Rattle.wave_main.specs.Fetching.{IsInputFault, IsInputFetched}
 use Rattle.wave_main.specs.Files.{Inputs, word_of}
 use Rattle.wave_main.specs.Making.{IsMade, IsMissed}
@@ -35,37 +35,37 @@ at_places held ws form first files got same is = let P : ℕ → Type 0 = λ n. 
 
 -- ---- a file that isn't read
 
-pub input_missed : (held : Held) (ws : List (List ℕ)) (form : Form) (first : ℕ) (old new : List ℕ → ℕ) (status : Status) → IsBuilt ws form → first ≡ first_file form
+pub input_missed : (held : Held) (ws : List (List ℕ)) (form : Form) (first : ℕ) (old new : List ℕ → ℕ) (status : Status) → IsAsked ws form → reads_files form ≡ true → first ≡ first_file form
     → (status ≡ Memory) ⊎ IsInputFault first ws old new status → IsMissed held ws old new status
-input_missed held ws form first old new status built same cause = elim cause [
+input_missed held ws form first old new status asks reads same cause = elim cause [
   | inl want ↦ inl want
   | inr (word, below, which, is, rose) ↦
       let P : ℕ → Type 0 = λ n. (word ≡ 1) ⊎ (word ≡ 2) ⊎ (n ≤ word) in
-      inr (inl (word, (form, built, below, subst P same which), is, rose))
+      inr (inl (word, (form, asks, reads, below, subst P same which), is, rose))
 ]
 
-pub loop_missed : (held : Held) (ws : List (List ℕ)) (form : Form) (old new : List ℕ → ℕ) (status : Status) → IsBuilt ws form → 1 < length ws
+pub loop_missed : (held : Held) (ws : List (List ℕ)) (form : Form) (old new : List ℕ → ℕ) (status : Status) → IsAsked ws form → reads_files form ≡ true → 1 < length ws
     → (status ≡ Memory) ⊎ ((status ≡ ReadFault 1) × Rose (old (word_of ws 1)) (new (word_of ws 1))) → IsMissed held ws old new status
-loop_missed held ws form old new status built long cause = elim cause [
+loop_missed held ws form old new status asks reads long cause = elim cause [
   | inl want ↦ inl want
-  | inr (is, rose) ↦ inr (inl (1, (form, built, long, inl refl), is, rose))
+  | inr (is, rose) ↦ inr (inl (1, (form, asks, reads, long, inl refl), is, rose))
 ]
 
 -- ---- the text of a command, or its refusal
 
-pub made_by : (held : Held) (ws : List (List ℕ)) (form : Form) (files : List (List ℕ)) (r : Result (Vec ℕ Global) Status) → IsBuilt ws form → AreFilesOf held ws files
+pub made_by : (held : Held) (ws : List (List ℕ)) (form : Form) (files : List (List ℕ)) (r : Result (Vec ℕ Global) Status) → IsAsked ws form → AreFilesOf held ws files
     → MatchResult r (λ text. AcceptAll (stages form ws) (inputs_of form files) × IsText form ws (inputs_of form files) text.items) (λ status. (status ≡ Memory) ⊎ IsRefusedBy (stages form ws) (inputs_of form files) status)
     → IfOk r (λ text. IsMade held ws text.items)
-made_by held ws form files (Ok text) built are h = (files, are, (form, built, h.0, h.1))
-made_by held ws form files (Err status) built are h = tt
+made_by held ws form files (Ok text) asks are h = (files, are, (form, asks, h.0, h.1))
+made_by held ws form files (Err status) asks are h = tt
 
-pub missed_by : (held : Held) (ws : List (List ℕ)) (form : Form) (files : List (List ℕ)) (old new : List ℕ → ℕ) (r : Result (Vec ℕ Global) Status) → IsBuilt ws form → AreFilesOf held ws files
+pub missed_by : (held : Held) (ws : List (List ℕ)) (form : Form) (files : List (List ℕ)) (old new : List ℕ → ℕ) (r : Result (Vec ℕ Global) Status) → IsAsked ws form → AreFilesOf held ws files
     → MatchResult r (λ text. AcceptAll (stages form ws) (inputs_of form files) × IsText form ws (inputs_of form files) text.items) (λ status. (status ≡ Memory) ⊎ IsRefusedBy (stages form ws) (inputs_of form files) status)
     → IfErr r (IsMissed held ws old new)
-missed_by held ws form files old new (Ok text) built are h = tt
-missed_by held ws form files old new (Err status) built are h = elim h [
+missed_by held ws form files old new (Ok text) asks are h = tt
+missed_by held ws form files old new (Err status) asks are h = elim h [
   | inl want ↦ inl want
-  | inr by ↦ inr (inr (files, are, inr (form, built, by)))
+  | inr by ↦ inr (inr (files, are, inr (form, asks, by)))
 ]
 
 -- a text of a work that is planned is one of the work of words

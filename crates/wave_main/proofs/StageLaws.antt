@@ -27,7 +27,7 @@ use Rattle.prop_check.specs.Broken.{FirstBroken}
 use Rattle.prop_check.proofs.Found.{fails}
 use Rattle.prop_check.proofs.Unique.{once}
 use Rattle.wave_main.specs.declared.status.Status.{Status}
-use Rattle.wave_main.specs.declared.status.Status.TheVariants.{Done, Usage, ReadFault, LoopLimit, Unbounded, Shape, Property, NotBuilt, WriteFault, Memory}
+use Rattle.wave_main.specs.declared.status.Status.TheVariants.{Done, Usage, ReadFault, LoopLimit, Unbounded, Shape, Property, WriteFault, Memory}
 use Rattle.wave_main.specs.declared.status.ShapeKind.TheVariants.{Order}
 use Rattle.wave_main.specs.Binding.{array_vectors, array_word, binding_fault, data_arrays, index_arrays, shape_status}
 use Rattle.wave_main.specs.Bounds.{IsBoundsFault}
@@ -49,7 +49,6 @@ abbrev pub IsFault : Status → Type 0
 IsFault Done = ⊥
 IsFault (Usage word) = ⊥
 IsFault (ReadFault word) = ⊥
-IsFault (NotBuilt word) = ⊥
 IsFault WriteFault = ⊥
 IsFault _ = Unit {0}
 

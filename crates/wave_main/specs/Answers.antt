@@ -5,7 +5,7 @@ use Rattle.wave_io.specs.Written.{grown, TookPart}
 use Rattle.wave_main.specs.declared.status.Status.{Status}
 use Rattle.wave_main.specs.declared.status.Status.TheVariants.{Done, ReadFault, WriteFault, Memory}
 use Rattle.wave_words.specs.declared.form.Form.{Form}
-use Rattle.wave_main.specs.Commands.{IsBuilt, IsFilePlace, Prints, Refuses}
+use Rattle.wave_main.specs.Commands.{IsAsked, IsFilePlace, Prints, Refuses}
 use Rattle.wave_main.specs.Files.{MayBe, word_of}
 use Rattle.wave_main.specs.Status.{fault_line}
 
@@ -91,8 +91,8 @@ pub record IsAnswer (call : Call) : Type 0 where
   pub read_fault : (word : ℕ) → call.status ≡ ReadFault word → IsReadFault call.words call.changes word
   -- nothing is put otherwise
   pub keeps : call.status ≢ Done → call.status ≢ WriteFault → call.changes.after ≡ call.changes.before
-  -- words of a command that is built, told files that call for no refusal, no fault: the answer is Done or Memory
-  pub complete : (form : Form) → IsBuilt call.words form → (told : List (List ℕ)) → AreTold call.held call.words told
+  -- words of a command, told files that call for no refusal, no fault: the answer is Done or Memory
+  pub complete : (form : Form) → IsAsked call.words form → (told : List (List ℕ)) → AreTold call.held call.words told
       → ((why : Status) → ¬ Refuses call.words told why) → HasNoFault call → (call.status ≡ Done) ⊎ (call.status ≡ Memory)
   -- told files: after Done that text was put
   pub prints : call.status ≡ Done → (told : List (List ℕ)) → AreTold call.held call.words told → (text : List ℕ) → Prints call.words told text

@@ -4,13 +4,13 @@ use Rattle.core_law.specs.Machine.{State, Reached}
 use Rattle.core_machine.specs.FitWork.{plain}
 use Rattle.core_nest.specs.NestLaws.{DependencesAreOrdered, SomeWorkerSteps}
 use Rattle.wave_words.specs.declared.form.Form.TheVariants.{Run}
-use Rattle.wave_main.specs.Commands.{IsBuilt, inputs_of}
+use Rattle.wave_main.specs.Commands.{IsAsked, inputs_of}
 use Rattle.wave_main.specs.Run.{IsWork}
 use Rattle.wave_main.specs.Sound.{Work, core_work}
 
 -- words of a run determine this work over files, one list of bytes for each word
 abbrev pub IsRunOf : List (List ℕ) → List (List ℕ) → Work → Type 0
-IsRunOf words files work = IsBuilt words Run × IsWork words (inputs_of Run files) work
+IsRunOf words files work = IsAsked words Run × IsWork words (inputs_of Run files) work
 
 -- single loads and stores of its workers lead to this state
 abbrev pub IsReached : Work → State → Type 0

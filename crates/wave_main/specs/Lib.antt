@@ -13,6 +13,7 @@ pub mod Run
 pub mod Planning
 pub mod Replay
 pub mod Sound
+pub mod Demo
 pub mod Headline
 pub mod Replaying
 pub mod Texts

@@ -16,7 +16,7 @@ use Rattle.wave_main.specs.declared.status.MtxFault.TheVariants as faults
 use Rattle.wave_main.specs.declared.status.ShapeKind.{ShapeKind}
 use Rattle.wave_main.specs.declared.status.ShapeKind.TheVariants as shapes
 use Rattle.wave_main.specs.declared.status.Status.{Status}
-use Rattle.wave_main.specs.declared.status.Status.TheVariants.{Done, Usage, ReadFault, LoopText, LoopName, LoopLimit, Unbounded, MatrixText, Shape, Property, NotBuilt, WriteFault, Memory}
+use Rattle.wave_main.specs.declared.status.Status.TheVariants.{Done, Usage, ReadFault, LoopText, LoopName, LoopLimit, Unbounded, MatrixText, Shape, Property, WriteFault, Memory}
 
 abbrev pub code_of : Status → ℕ
 code_of Done = 0
@@ -31,7 +31,6 @@ code_of (MatrixText word cause) = 9
 code_of (Shape kind) = 10
 code_of (Property property first second) = 11
 code_of Memory = 12
-code_of (NotBuilt word) = 13
 
 -- a line with its end
 abbrev pub line : List ℕ → List ℕ
@@ -107,7 +106,6 @@ fault_words (Unbounded n bracket side) = codes "loop" ∷ codes "unbounded" ∷ 
 fault_words (MatrixText word cause) = matrix_words word cause
 fault_words (Shape kind) = shape_words kind
 fault_words (Property property first second) = codes "property" ∷ decimal property ∷ codes "first" ∷ decimal first ∷ codes "second" ∷ decimal second ∷ []
-fault_words (NotBuilt word) = codes "not" ∷ codes "built" ∷ codes "word" ∷ decimal word ∷ []
 fault_words WriteFault = codes "write" ∷ []
 fault_words Memory = codes "memory" ∷ []
 

@@ -2,7 +2,7 @@
 ghost use Rattle.std.specs.Prelude.{◌≡◌, ◌⊎◌, ◌<◌, ◌≤◌, ◌+◌, ◌++◌, ◌^◌, ℕ, List, MatchResult, IfOk, IfErr, length, codes, decimal};
 ghost use Rattle.wave_words.specs.Words.{texts};
 ghost use Rattle.wave_words.specs.declared.form.Form.TheVariants.{Check};
-ghost use Rattle.wave_main.specs.Commands.{IsBuilt, first_file};
+ghost use Rattle.wave_main.specs.Commands.{IsAsked, first_file};
 ghost use Rattle.wave_main.specs.Fetching.{AreInputs};
 ghost use Rattle.wave_main.specs.Files.{Inputs};
 ghost use Rattle.wave_main.specs.Making.{IsMade, IsMissed};
@@ -49,7 +49,7 @@ pub fn make_check<L: Library>(
     words: &[String],
     first: u32,
 ) -> Result<Vec<u8>, Status>
-    requires built { IsBuilt (texts words.now) Check }
+    requires asked { IsAsked (texts words.now) Check }
     requires places { first ≡ first_file Check }
     requires few { length words.now < 2 ^ 32 }
     ensures made { IfOk result (λ text. IsMade (L.held lib.old) (texts words.now) text.items) }

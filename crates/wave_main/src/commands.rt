@@ -1,10 +1,11 @@
-// The commands that are built: how they are read from words, and their texts.
-ghost use Rattle.std.specs.Prelude.{◌≡◌, ◌<◌, ◌≤◌, ◌^◌, ℕ, List, None, Some, length, MatchResult, IfErr, IfOk};
+// The commands: how they are read from words, and their texts.
+ghost use Rattle.std.specs.Prelude.{◌≡◌, ◌<◌, ◌≤◌, ◌^◌, ℕ, List, length, IfErr, IfOk};
 ghost use Rattle.wave_words.specs.Words.{texts};
-ghost use Rattle.wave_main.specs.Commands.{unbuilt_word, form_of, HasPlaces, IsCommand, IsOthers, RefusesWords};
+ghost use Rattle.wave_main.specs.Commands.{form_of, HasPlaces, IsCommand, IsOthers, RefusesWords};
 ghost use Rattle.wave_main.specs.Making.{IsMade, IsMissed};
 
 use crate::check::make_check;
+use crate::demo::{Kind, make_demo};
 use crate::explain::make_explain;
 use crate::plan::make_plan;
 use crate::replay::make_replay;
@@ -29,35 +30,28 @@ pub enum Quiet {
     Show,
 }
 
-/// A command that is built: a run, whose workers wait for each other, or one that waits for nobody.
+/// A command: a run or a demo, whose workers wait for each other, or one that waits for nobody.
 #[derive(Clone, Copy, Debug, PartialEq, Eq)]
 pub enum Command {
     Run { first: u32 },
+    Demo(Kind),
     Quiet(Quiet),
 }
 
-/// The command of a form, or the place of the word that asks for what isn't built yet.
-fn built(form: Form) -> Result<Command, u32>
-    ensures { MatchResult result (λ command. (unbuilt_word form ≡ None) × (form_of command ≡ form) × HasPlaces command) (λ word. unbuilt_word form ≡ Some word) }
+/// The command of a form, with the places of its words.
+fn command_of(form: Form) -> Command
+    ensures form { form_of result ≡ form }
+    ensures places { HasPlaces result }
 {
     match form {
-        Form::Run => Ok(Command::Run { first: 4 }),
-        Form::Plan => Ok(Command::Quiet(Quiet::Plan { first: 4 })),
-        Form::Replay => Ok(Command::Quiet(Quiet::Replay { first: 4 })),
-        Form::Check => Ok(Command::Quiet(Quiet::Check { first: 3 })),
-        Form::Explain => Ok(Command::Quiet(Quiet::Explain)),
-        Form::Show => Ok(Command::Quiet(Quiet::Show)),
-        Form::DemoGrid | Form::DemoLower => Err(0),
-    }
-}
-
-fn command_of(form: Form) -> Result<Command, Status>
-    ensures { MatchResult result (λ command. (unbuilt_word form ≡ None) × (form_of command ≡ form) × HasPlaces command)
-        (λ status. (word : ℕ) × (unbuilt_word form ≡ Some word) × (status ≡ Status.NotBuilt word)) }
-{
-    match built(form) {
-        Ok(command) => Ok(command),
-        Err(word) => Err(Status::NotBuilt { word }),
+        Form::Run => Command::Run { first: 4 },
+        Form::DemoGrid => Command::Demo(Kind::Grid),
+        Form::DemoLower => Command::Demo(Kind::Lower),
+        Form::Plan => Command::Quiet(Quiet::Plan { first: 4 }),
+        Form::Replay => Command::Quiet(Quiet::Replay { first: 4 }),
+        Form::Check => Command::Quiet(Quiet::Check { first: 3 }),
+        Form::Explain => Command::Quiet(Quiet::Explain),
+        Form::Show => Command::Quiet(Quiet::Show),
     }
 }
 
@@ -78,7 +72,7 @@ pub fn built_command(words: &[String]) -> Result<Command, Status>
         Form::Show,
     ];
     match usage(&forms, words) {
-        Ok(form) => command_of(form),
+        Ok(form) => Ok(command_of(form)),
         Err(word) => Err(Status::Usage { word }),
     }
 }
@@ -94,10 +88,11 @@ pub fn quiet_command(words: &[String]) -> Result<Quiet, Status>
     match command {
         Command::Quiet(quiet) => Ok(quiet),
         Command::Run { .. } => unreachable!(),
+        Command::Demo(_) => unreachable!(),
     }
 }
 
-/// The whole text that a command prints, or why it prints none. A run passes the gate before each task.
+/// The whole text that a command prints, or why it prints none. A run or a demo passes the gate before each task.
 pub fn make_text<R: AllocGlobal + Threads + Wait + Sync, L: Library, G: Gate + Sync>(
     rt: &R,
     lib: &mut L,
@@ -114,6 +109,7 @@ pub fn make_text<R: AllocGlobal + Threads + Wait + Sync, L: Library, G: Gate + S
 {
     match command {
         Command::Run { first } => make_run(rt, lib, words, first, gate),
+        Command::Demo(kind) => make_demo(rt, words, kind, gate),
         Command::Quiet(quiet) => make_quiet(rt, lib, words, quiet),
     }
 }

@@ -8,7 +8,7 @@ ghost use Rattle.dep_simplify.specs.Verdicts.{AreVerdicts};
 ghost use Rattle.wave_report.specs.RelationText.{relation_text};
 ghost use Rattle.wave_words.specs.Words.{texts};
 ghost use Rattle.wave_words.specs.declared.form.Form.TheVariants.{Explain};
-ghost use Rattle.wave_main.specs.Commands.{IsBuilt};
+ghost use Rattle.wave_main.specs.Commands.{IsAsked};
 ghost use Rattle.wave_main.specs.Explaining.{IsExplained, IsUnexplained};
 ghost use Rattle.wave_main.specs.Files.{IsFetched};
 ghost use Rattle.wave_main.specs.Making.{IsMade, IsMissed};
@@ -111,7 +111,7 @@ pub fn make_explain<L: Library>(
     lib: &mut L,
     words: &[String],
 ) -> Result<Vec<u8>, Status>
-    requires { IsBuilt (texts words.now) Explain }
+    requires { IsAsked (texts words.now) Explain }
     ensures made { IfOk result (λ text. IsMade (L.held lib.old) (texts words.now) text.items) }
     ensures missed { IfErr result (IsMissed (L.held lib.old) (texts words.now) (L.faults lib.old) (L.faults lib.new)) }
     ensures never_fall { (other : List ℕ) → L.faults lib.old other ≤ L.faults lib.new other }

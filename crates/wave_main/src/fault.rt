@@ -217,7 +217,6 @@ pub fn fault_line(status: Status) -> ArrayString<ROOM>
             first,
             second,
         } => property_line(property, first, second),
-        Status::NotBuilt { word } => one("not built word", word as u64),
         Status::WriteFault => line_of(&[Piece::Text("write")]),
         Status::Memory => line_of(&[Piece::Text("memory")]),
     }

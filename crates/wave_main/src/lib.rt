@@ -5,6 +5,7 @@ mod bind;
 mod bounds;
 mod check;
 mod commands;
+mod demo;
 mod explain;
 mod fault;
 mod fetch;

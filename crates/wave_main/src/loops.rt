@@ -43,14 +43,26 @@ pub fn read_loop(alloc: Global, file: Option<Vec<u8>>) -> Result<Nest, Status>
     ensures few { IfOk result (λ nest. length (sizes nest.decls) ≤ 64) }
     ensures few_properties { IfOk result (λ nest. length nest.props < 2 ^ 32) }
 {
+    match file {
+        Some(bytes) => nest_of(alloc, bytes.as_slice()),
+        None => Err(too_long()),
+    }
+}
+
+/// The loop that bytes are; more than 65,536 pass a limit.
+pub fn nest_of(alloc: Global, bytes: &[u8]) -> Result<Nest, Status>
+    ensures answer { MatchResult result (IsLoop bytes.now) (λ status. (status ≡ Status.Memory) ⊎ IsLoopFault bytes.now status) }
+    ensures nest { IfOk result IsNest }
+    ensures names { IfOk result HasNames }
+    ensures shallow { IfOk result (λ nest. body_depth nest.body ≤ 5) }
+    ensures few { IfOk result (λ nest. length (sizes nest.decls) ≤ 64) }
+    ensures few_properties { IfOk result (λ nest. length nest.props < 2 ^ 32) }
+{
     what_is_read_is_a_nest();
-    let Some(bytes) = file else {
-        return Err(too_long());
-    };
     if bytes.len() > 65536 {
         return Err(too_long());
     }
-    match read(alloc, bytes.as_slice()) {
+    match read(alloc, bytes) {
         Ok(nest) => Ok(nest),
         Err(refusal) => Err(loop_status(refusal)),
     }

@@ -13,7 +13,8 @@ use mtx_read::vector::read_vector;
 use std::alloc::Global;
 use wave_base::words::Words;
 
-fn matrix_status(word: u32, refusal: MtxRefusal) -> Status
+/// The refusal of the matrix or the vector that a word names.
+pub fn matrix_status(word: u32, refusal: MtxRefusal) -> Status
     ensures { result ≡ matrix_status word refusal }
 {
     let cause = match refusal {

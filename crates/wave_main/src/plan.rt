@@ -4,7 +4,7 @@ ghost use Rattle.std.specs.String.{string_bytes};
 ghost use Rattle.wave_report.specs.PlanText.{plan_text as tasks_text};
 ghost use Rattle.wave_words.specs.Words.{texts};
 ghost use Rattle.wave_words.specs.declared.form.Form.TheVariants.{Plan};
-ghost use Rattle.wave_main.specs.Commands.{IsBuilt, first_file};
+ghost use Rattle.wave_main.specs.Commands.{IsAsked, first_file};
 ghost use Rattle.wave_main.specs.Fetching.{AreInputs};
 ghost use Rattle.wave_main.specs.Files.{Inputs};
 ghost use Rattle.wave_main.specs.Making.{IsMade, IsMissed};
@@ -61,7 +61,7 @@ pub fn make_plan<R: AllocGlobal + Threads + Sync, L: Library>(
     words: &[String],
     first: u32,
 ) -> Result<Vec<u8>, Status>
-    requires built { IsBuilt (texts words.now) Plan }
+    requires asked { IsAsked (texts words.now) Plan }
     requires places { first ≡ first_file Plan }
     requires few { length words.now < 2 ^ 32 }
     ensures made { IfOk result (λ text. IsMade (L.held lib.old) (texts words.now) text.items) }

@@ -11,7 +11,7 @@ ghost use Rattle.wave_report.specs.LooksText.{looks_text};
 ghost use Rattle.wave_report.specs.SummaryText.{summary_text};
 ghost use Rattle.wave_words.specs.Words.{texts};
 ghost use Rattle.wave_words.specs.declared.form.Form.TheVariants.{Replay};
-ghost use Rattle.wave_main.specs.Commands.{IsBuilt, first_file};
+ghost use Rattle.wave_main.specs.Commands.{IsAsked, first_file};
 ghost use Rattle.wave_main.specs.Fetching.{AreInputs};
 ghost use Rattle.wave_main.specs.Files.{Inputs};
 ghost use Rattle.wave_main.specs.Making.{IsMade, IsMissed};
@@ -167,7 +167,7 @@ pub fn make_replay<R: AllocGlobal + Threads + Sync, L: Library>(
     words: &[String],
     first: u32,
 ) -> Result<Vec<u8>, Status>
-    requires built { IsBuilt (texts words.now) Replay }
+    requires asked { IsAsked (texts words.now) Replay }
     requires places { first ≡ first_file Replay }
     requires few { length words.now < 2 ^ 32 }
     ensures made { IfOk result (λ text. IsMade (L.held lib.old) (texts words.now) text.items) }

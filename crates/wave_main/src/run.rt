@@ -8,7 +8,7 @@ ghost use Rattle.wave_report.specs.ArrayText.{arrays_text};
 ghost use Rattle.wave_report.specs.SummaryText.{summary_text};
 ghost use Rattle.wave_words.specs.Words.{texts};
 ghost use Rattle.wave_words.specs.declared.form.Form.TheVariants.{Run};
-ghost use Rattle.wave_main.specs.Commands.{IsBuilt, first_file};
+ghost use Rattle.wave_main.specs.Commands.{IsAsked, first_file};
 ghost use Rattle.wave_main.specs.Fetching.{AreInputs};
 ghost use Rattle.wave_main.specs.Files.{Inputs};
 ghost use Rattle.wave_main.specs.Making.{IsMade, IsMissed};
@@ -36,8 +36,8 @@ use wave_report::counts::Summary;
 use wave_report::laws::nests_can_be_printed;
 use wave_report::summary::summary;
 
-// The data arrays of a fit work after all of its workers have run.
-fn team_values<R: AllocGlobal + Threads + Wait + Sync, G: Gate + Sync>(
+/// The data arrays of a fit work after all of its workers have run.
+pub fn team_values<R: AllocGlobal + Threads + Wait + Sync, G: Gate + Sync>(
     rt: &R,
     work: &Work,
     gate: &G,
@@ -133,7 +133,7 @@ pub fn make_run<R: AllocGlobal + Threads + Wait + Sync, L: Library, G: Gate + Sy
     first: u32,
     gate: &G,
 ) -> Result<Vec<u8>, Status>
-    requires built { IsBuilt (texts words.now) Run }
+    requires asked { IsAsked (texts words.now) Run }
     requires places { first ≡ first_file Run }
     requires few { length words.now < 2 ^ 32 }
     ensures made { IfOk result (λ text. IsMade (L.held lib.old) (texts words.now) text.items) }

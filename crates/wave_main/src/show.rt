@@ -4,7 +4,7 @@ ghost use Rattle.loop_core.specs.declared.nest.Nest.{Nest};
 ghost use Rattle.loop_print.specs.PrintText.{nest_text};
 ghost use Rattle.wave_words.specs.Words.{texts};
 ghost use Rattle.wave_words.specs.declared.form.Form.TheVariants.{Show};
-ghost use Rattle.wave_main.specs.Commands.{IsBuilt};
+ghost use Rattle.wave_main.specs.Commands.{IsAsked};
 ghost use Rattle.wave_main.specs.Files.{IsFetched};
 ghost use Rattle.wave_main.specs.Loops.{IsLoop, IsLoopFault};
 ghost use Rattle.wave_main.specs.Making.{IsMade, IsMissed};
@@ -33,7 +33,7 @@ pub fn make_show<L: Library>(
     lib: &mut L,
     words: &[String],
 ) -> Result<Vec<u8>, Status>
-    requires { IsBuilt (texts words.now) Show }
+    requires { IsAsked (texts words.now) Show }
     ensures made { IfOk result (λ text. IsMade (L.held lib.old) (texts words.now) text.items) }
     ensures missed { IfErr result (IsMissed (L.held lib.old) (texts words.now) (L.faults lib.old) (L.faults lib.new)) }
     ensures never_fall { (other : List ℕ) → L.faults lib.old other ≤ L.faults lib.new other }

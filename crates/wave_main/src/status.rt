@@ -87,10 +87,6 @@ pub enum Status {
         first: u64,
         second: u64,
     },
-    /// The word asks for what isn't built yet.
-    NotBuilt {
-        word: u32,
-    },
     /// The text couldn't be put whole.
     WriteFault,
     /// Out of memory.
@@ -115,7 +111,6 @@ impl Status {
             Status::Shape(_) => 10,
             Status::Property { .. } => 11,
             Status::Memory => 12,
-            Status::NotBuilt { .. } => 13,
         }
     }
 }

@@ -33,7 +33,7 @@ fn put_text<O: Sink>(out: &mut O, text: &[u8]) -> Result<(), Status>
     }
 }
 
-/// Does what the words ask for, or says why not. A run passes the gate before each task.
+/// Does what the words ask for, or says why not. A run or a demo passes the gate before each task.
 fn try_command<R: AllocGlobal + Threads + Wait + Sync, L: Library, O: Sink, G: Gate + Sync>(
     rt: &R,
     words: &[String],
@@ -88,7 +88,7 @@ fn begins(words: &[String], wanted: &str) -> bool
     word_at(words, 0) == wanted
 }
 
-/// Does what the words ask for, and says in one line why it didn't. A run passes the gate before each task.
+/// Does what the words ask for, and says in one line why it didn't. A run or a demo passes the gate before each task.
 fn serve<R: AllocGlobal + Threads + Wait + Sync, L: Library, O: Sink, E: Sink, G: Gate + Sync>(
     rt: &R,
     words: &[String],
@@ -166,8 +166,8 @@ pub fn quiet_main<R: AllocGlobal + Threads + Sync, L: Library, O: Sink, E: Sink>
 /// Does all that the program does, but for the real files and streams: it serves `run` and `demo`
 /// itself and hands all other words to `quiet_main`.
 ///
-/// Each worker of a run passes the gate before each of its tasks, on its own thread. A run may wait forever: no
-/// return is promised.
+/// Each worker of a run or a demo passes the gate before each of its tasks, on its own thread. Both may wait
+/// forever: no return is promised.
 pub fn wave_main<
     R: AllocGlobal + Threads + Sync + Wait,
     L: Library,

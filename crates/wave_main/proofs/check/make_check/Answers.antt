@@ -22,14 +22,14 @@ of_check ws files (Err status) h = h
 pub returns-in_err-files-clause-missed : goal.returns-in_err-files-clause-missed
 returns-in_err-files-clause-missed g c =
     if_err c.from_residual.result c.in_err-files.field-0.0 _ c.from_residual.ensures.1
-    (input_missed (g.L.Library.held c.args.lib.now) (texts c.args.words.now) forms.Check c.args.first (g.L.Library.faults c.args.lib.now) (g.L.Library.faults c.fetch_inputs.new.lib) _ c.requires.built c.requires.places c.in_err-files.ensures.fault)
+    (input_missed (g.L.Library.held c.args.lib.now) (texts c.args.words.now) forms.Check c.args.first (g.L.Library.faults c.args.lib.now) (g.L.Library.faults c.fetch_inputs.new.lib) _ c.requires.asked refl c.requires.places c.in_err-files.ensures.fault)
 
 pub returns-clause-made : goal.returns-clause-made
 returns-clause-made g c =
     let ws = texts c.args.words.now in
     let got = c.in_ok-files.ensures.fetched in
     let placed = at_places (g.L.Library.held c.args.lib.now) ws forms.Check c.args.first got.0 _ c.requires.places got.1 in
-    made_by (g.L.Library.held c.args.lib.now) ws forms.Check got.0 c.check_text.result c.requires.built (input_files (g.L.Library.held c.args.lib.now) ws forms.Check got.0 _ c.requires.built placed)
+    made_by (g.L.Library.held c.args.lib.now) ws forms.Check got.0 c.check_text.result c.requires.asked (input_files (g.L.Library.held c.args.lib.now) ws forms.Check got.0 _ c.requires.asked placed)
     (of_check ws (inputs_of forms.Check got.0) c.check_text.result (c.check_text.ensures (inputs_of forms.Check got.0) placed.are (sym c.requires.places) refl))
 
 pub returns-clause-missed : goal.returns-clause-missed
@@ -37,5 +37,5 @@ returns-clause-missed g c =
     let ws = texts c.args.words.now in
     let got = c.in_ok-files.ensures.fetched in
     let placed = at_places (g.L.Library.held c.args.lib.now) ws forms.Check c.args.first got.0 _ c.requires.places got.1 in
-    missed_by (g.L.Library.held c.args.lib.now) ws forms.Check got.0 (g.L.Library.faults c.args.lib.now) (g.L.Library.faults c.fetch_inputs.new.lib) c.check_text.result c.requires.built (input_files (g.L.Library.held c.args.lib.now) ws forms.Check got.0 _ c.requires.built placed)
+    missed_by (g.L.Library.held c.args.lib.now) ws forms.Check got.0 (g.L.Library.faults c.args.lib.now) (g.L.Library.faults c.fetch_inputs.new.lib) c.check_text.result c.requires.asked (input_files (g.L.Library.held c.args.lib.now) ws forms.Check got.0 _ c.requires.asked placed)
     (of_check ws (inputs_of forms.Check got.0) c.check_text.result (c.check_text.ensures (inputs_of forms.Check got.0) placed.are (sym c.requires.places) refl))

@@ -4,7 +4,7 @@ use Rattle.std.specs.Option.{unwrap_or}
 use Rattle.std.specs.declared.alloc.Global.{Global}
 use Rattle.wave_main.specs.declared.status.Status.{Status}
 use Rattle.wave_main.specs.declared.status.Status.TheVariants.{Memory}
-use Rattle.wave_main.specs.Commands.{IsBuilt, IsText, stages, inputs_of}
+use Rattle.wave_main.specs.Commands.{IsAsked, IsText, stages, inputs_of}
 use Rattle.wave_main.specs.declared.fetch.InputBytes.{InputBytes}
 use Rattle.wave_main.specs.Fetching.{AreInputs}
 use Rattle.wave_main.specs.Files.{Inputs, word_of}
@@ -50,29 +50,29 @@ of_replay ws files workers (Err status) many cause =
 
 pub fetch_inputs-requires-clause-within : goal.fetch_inputs-requires-clause-within
 fetch_inputs-requires-clause-within g c =
-    let long = replay_length (texts c.args.words.now) c.requires.built in
+    let long = replay_length (texts c.args.words.now) c.requires.asked in
     let same = length-map c.args.words.now string_bytes in omega (arith, long, same, c.requires.places)
 
 pub replay_text-requires-clause-some_file : goal.replay_text-requires-clause-some_file
 replay_text-requires-clause-some_file g c =
-    let long = replay_length (texts c.args.words.now) c.requires.built in
+    let long = replay_length (texts c.args.words.now) c.requires.asked in
     let same = length-map c.args.words.now string_bytes in
     omega (arith, long, same, c.requires.places, c.in_ok-files.ensures.count)
 
 pub workers_of-requires : goal.workers_of-requires
-workers_of-requires g c = replay_workers (texts c.args.words.now) c.requires.built
+workers_of-requires g c = replay_workers (texts c.args.words.now) c.requires.asked
 
 pub returns-in_err-files-clause-missed : goal.returns-in_err-files-clause-missed
 returns-in_err-files-clause-missed g c =
     if_err c.from_residual.result c.in_err-files.field-0.0 _ c.from_residual.ensures.1
-    (input_missed (g.L.Library.held c.args.lib.now) (texts c.args.words.now) forms.Replay c.args.first (g.L.Library.faults c.args.lib.now) (g.L.Library.faults c.fetch_inputs.new.lib) _ c.requires.built c.requires.places c.in_err-files.ensures.fault)
+    (input_missed (g.L.Library.held c.args.lib.now) (texts c.args.words.now) forms.Replay c.args.first (g.L.Library.faults c.args.lib.now) (g.L.Library.faults c.fetch_inputs.new.lib) _ c.requires.asked refl c.requires.places c.in_err-files.ensures.fault)
 
 pub returns-clause-made : goal.returns-clause-made
 returns-clause-made g c =
     let ws = texts c.args.words.now in
     let got = c.in_ok-files.ensures.fetched in
     let placed = at_places (g.L.Library.held c.args.lib.now) ws forms.Replay c.args.first got.0 _ c.requires.places got.1 in
-    made_by (g.L.Library.held c.args.lib.now) ws forms.Replay got.0 c.replay_text.result c.requires.built (input_files (g.L.Library.held c.args.lib.now) ws forms.Replay got.0 _ c.requires.built placed)
+    made_by (g.L.Library.held c.args.lib.now) ws forms.Replay got.0 c.replay_text.result c.requires.asked (input_files (g.L.Library.held c.args.lib.now) ws forms.Replay got.0 _ c.requires.asked placed)
     (of_replay ws (inputs_of forms.Replay got.0) _ c.replay_text.result c.workers_of.ensures.number (c.replay_text.ensures (inputs_of forms.Replay got.0) (with_order got.0 _ placed.are) (sym c.requires.places) refl))
 
 pub returns-clause-missed : goal.returns-clause-missed
@@ -80,5 +80,5 @@ returns-clause-missed g c =
     let ws = texts c.args.words.now in
     let got = c.in_ok-files.ensures.fetched in
     let placed = at_places (g.L.Library.held c.args.lib.now) ws forms.Replay c.args.first got.0 _ c.requires.places got.1 in
-    missed_by (g.L.Library.held c.args.lib.now) ws forms.Replay got.0 (g.L.Library.faults c.args.lib.now) (g.L.Library.faults c.fetch_inputs.new.lib) c.replay_text.result c.requires.built (input_files (g.L.Library.held c.args.lib.now) ws forms.Replay got.0 _ c.requires.built placed)
+    missed_by (g.L.Library.held c.args.lib.now) ws forms.Replay got.0 (g.L.Library.faults c.args.lib.now) (g.L.Library.faults c.fetch_inputs.new.lib) c.replay_text.result c.requires.asked (input_files (g.L.Library.held c.args.lib.now) ws forms.Replay got.0 _ c.requires.asked placed)
     (of_replay ws (inputs_of forms.Replay got.0) _ c.replay_text.result c.workers_of.ensures.number (c.replay_text.ensures (inputs_of forms.Replay got.0) (with_order got.0 _ placed.are) (sym c.requires.places) refl))

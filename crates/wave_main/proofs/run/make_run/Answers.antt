@@ -3,7 +3,7 @@ use Rattle.std.specs.Prelude.{Result, Ok, Err, Vec, MatchResult, Some, string_by
 use Rattle.std.specs.declared.alloc.Global.{Global}
 use Rattle.wave_main.specs.declared.status.Status.{Status}
 use Rattle.wave_main.specs.declared.status.Status.TheVariants.{Memory}
-use Rattle.wave_main.specs.Commands.{IsBuilt, IsText, stages, inputs_of}
+use Rattle.wave_main.specs.Commands.{IsAsked, IsText, stages, inputs_of}
 use Rattle.wave_main.specs.Files.{Inputs, word_of}
 use Rattle.wave_main.specs.Planning.{HasText}
 use Rattle.wave_main.specs.Run.{run_text}
@@ -25,23 +25,23 @@ of_run ws files workers (Err status) many h = h
 
 pub fetch_inputs-requires-clause-within : goal.fetch_inputs-requires-clause-within
 fetch_inputs-requires-clause-within g c =
-    let long = run_length (texts c.args.words.now) c.requires.built in
+    let long = run_length (texts c.args.words.now) c.requires.asked in
     let same = length-map c.args.words.now string_bytes in omega (arith, long, same, c.requires.places)
 
 pub workers_of-requires : goal.workers_of-requires
-workers_of-requires g c = run_workers (texts c.args.words.now) c.requires.built
+workers_of-requires g c = run_workers (texts c.args.words.now) c.requires.asked
 
 pub returns-in_err-files-clause-missed : goal.returns-in_err-files-clause-missed
 returns-in_err-files-clause-missed g c =
     if_err c.from_residual.result c.in_err-files.field-0.0 _ c.from_residual.ensures.1
-    (input_missed (g.L.Library.held c.args.lib.now) (texts c.args.words.now) forms.Run c.args.first (g.L.Library.faults c.args.lib.now) (g.L.Library.faults c.fetch_inputs.new.lib) _ c.requires.built c.requires.places c.in_err-files.ensures.fault)
+    (input_missed (g.L.Library.held c.args.lib.now) (texts c.args.words.now) forms.Run c.args.first (g.L.Library.faults c.args.lib.now) (g.L.Library.faults c.fetch_inputs.new.lib) _ c.requires.asked refl c.requires.places c.in_err-files.ensures.fault)
 
 pub returns-clause-made : goal.returns-clause-made
 returns-clause-made g c =
     let ws = texts c.args.words.now in
     let got = c.in_ok-files.ensures.fetched in
     let placed = at_places (g.L.Library.held c.args.lib.now) ws forms.Run c.args.first got.0 _ c.requires.places got.1 in
-    made_by (g.L.Library.held c.args.lib.now) ws forms.Run got.0 c.run_text.result c.requires.built (input_files (g.L.Library.held c.args.lib.now) ws forms.Run got.0 _ c.requires.built placed)
+    made_by (g.L.Library.held c.args.lib.now) ws forms.Run got.0 c.run_text.result c.requires.asked (input_files (g.L.Library.held c.args.lib.now) ws forms.Run got.0 _ c.requires.asked placed)
     (of_run ws (inputs_of forms.Run got.0) _ c.run_text.result c.workers_of.ensures.number (c.run_text.ensures (inputs_of forms.Run got.0) placed.are (sym c.requires.places) refl))
 
 pub returns-clause-missed : goal.returns-clause-missed
@@ -49,5 +49,5 @@ returns-clause-missed g c =
     let ws = texts c.args.words.now in
     let got = c.in_ok-files.ensures.fetched in
     let placed = at_places (g.L.Library.held c.args.lib.now) ws forms.Run c.args.first got.0 _ c.requires.places got.1 in
-    missed_by (g.L.Library.held c.args.lib.now) ws forms.Run got.0 (g.L.Library.faults c.args.lib.now) (g.L.Library.faults c.fetch_inputs.new.lib) c.run_text.result c.requires.built (input_files (g.L.Library.held c.args.lib.now) ws forms.Run got.0 _ c.requires.built placed)
+    missed_by (g.L.Library.held c.args.lib.now) ws forms.Run got.0 (g.L.Library.faults c.args.lib.now) (g.L.Library.faults c.fetch_inputs.new.lib) c.run_text.result c.requires.asked (input_files (g.L.Library.held c.args.lib.now) ws forms.Run got.0 _ c.requires.asked placed)
     (of_run ws (inputs_of forms.Run got.0) _ c.run_text.result c.workers_of.ensures.number (c.run_text.ensures (inputs_of forms.Run got.0) placed.are (sym c.requires.places) refl))

@@ -28,7 +28,7 @@ returns-in_err-file-clause-missed g c =
     let ws = texts c.args.words.now in
     let two = show_length ws c.requires in
     if_err c.from_residual.result c.in_err-file.field-0.0 _ c.from_residual.ensures.1
-    (loop_missed (g.L.Library.held c.args.lib.now) ws forms.Show (g.L.Library.faults c.args.lib.now) (g.L.Library.faults c.fetch_loop.new.lib) _ c.requires (omega (arith, two)) c.in_err-file.ensures.fault)
+    (loop_missed (g.L.Library.held c.args.lib.now) ws forms.Show (g.L.Library.faults c.args.lib.now) (g.L.Library.faults c.fetch_loop.new.lib) _ c.requires refl (omega (arith, two)) c.in_err-file.ensures.fault)
 
 pub returns-clause-made : goal.returns-clause-made
 returns-clause-made g c =

@@ -4,7 +4,7 @@ use Rattle.wave_main.specs.Answers.{Changes}
 use Rattle.wave_main.specs.Making.{IsMade}
 use Rattle.wave_main.proofs.EndLaws.{words_end, missed_ends, put_ends, handed_on, ends_with}
 use Rattle.wave_main.proofs.FileLaws.{some_files}
-use Rattle.wave_main.proofs.WordLaws.{built_stands}
+use Rattle.wave_main.proofs.WordLaws.{asked_stands}
 use Rattle.wave_main.proofs.top.try_command.Goals as goal
 
 pub returns-in_err-asked-clause-ended : goal.returns-in_err-asked-clause-ended
@@ -37,10 +37,10 @@ returns-in_err-text-clause-ended g c =
     ends_with held ws changes _ c.in_err-text.field-0.0 (handed_on _ _ c.from_residual-in_err-text.ensures.1) (missed_ends held ws changes _ c.in_err-text.ensures.missed refl)
 
 pub returns-in_err-text-clause-untouched : goal.returns-in_err-text-clause-untouched
-returns-in_err-text-clause-untouched g c (status, refused) = absurd (built_stands (texts c.args.words.now) _ status c.in_ok-asked.ensures.built.built refused)
+returns-in_err-text-clause-untouched g c (status, refused) = absurd (asked_stands (texts c.args.words.now) _ status c.in_ok-asked.ensures.built.asked refused)
 
 pub returns-clause-untouched : goal.returns-clause-untouched
-returns-clause-untouched g c (status, refused) = absurd (built_stands (texts c.args.words.now) _ status c.in_ok-asked.ensures.built.built refused)
+returns-clause-untouched g c (status, refused) = absurd (asked_stands (texts c.args.words.now) _ status c.in_ok-asked.ensures.built.asked refused)
 
 pub returns-clause-ended : goal.returns-clause-ended
 returns-clause-ended g c =
