@@ -162,7 +162,7 @@ def compared(taken, part, unit, aim=float("inf"), bar=float("inf")):
 
 def commands_of(name):
     """what is asked of a shape, with the number of workers"""
-    return (("run", 1),) if name == "shuffled" else (("run", 1), ("plan", 4), ("plan", 64))
+    return (("run", 1),) if name == "shuffled" else (("run", 1), ("run", 4), ("plan", 4), ("plan", 64))
 
 
 def turn_about(folder, count, bodies):

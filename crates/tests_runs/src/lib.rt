@@ -13,3 +13,5 @@ mod meets;
 mod passes;
 #[cfg(test)]
 mod runs;
+#[cfg(test)]
+mod turning;
